@@ -1,0 +1,4 @@
+pub mod Folds
+pub mod Bytes
+pub mod Flat
+pub mod Lists

@@ -1,0 +1,3 @@
+pub mod Folds
+pub mod Bytes
+pub mod Tables

@@ -1,0 +1,78 @@
+// Numbers read from bytes and stored into them, the lowest byte first.
+ghost use mathlib.Core.Path.{_≡_};
+ghost use mathlib.Core.List.{[], _∷_};
+ghost use Prim.Native.Nat.{_+_, _≤_};
+ghost use lib.ListN.{length};
+ghost use Rattle.base.specs.Bytes.{valueAt, bytes, put, part};
+
+pub fn u16_at(s: &[u8], at: usize) -> u16
+    requires { ⌜ at + 2 ≤ length (now s) ⌝ }
+    ensures { λ r. ⌜ r ≡ valueAt 2 (now (s .entry)) at ⌝ }
+{
+    s[at] as u16 + s[at + 1] as u16 * 256
+}
+
+fn u32_at(s: &[u8], at: usize) -> u32
+    requires { ⌜ at + 4 ≤ length (now s) ⌝ }
+    ensures { λ r. ⌜ r ≡ valueAt 4 (now (s .entry)) at ⌝ }
+{
+    u16_at(s, at) as u32 + u16_at(s, at + 2) as u32 * 65536
+}
+
+pub fn word_at(s: &[u8], at: usize) -> u64
+    requires { ⌜ at + 8 ≤ length (now s) ⌝ }
+    ensures { λ r. ⌜ r ≡ valueAt 8 (now (s .entry)) at ⌝ }
+{
+    u32_at(s, at) as u64 + u32_at(s, at + 4) as u64 * 4294967296
+}
+
+pub fn put_pair(d: &mut [u8], at: usize, x: u8, y: u8)
+    requires { ⌜ at + 2 ≤ length (now d) ⌝ }
+    ensures { λ _. ⌜ now (d .exit) ≡ put (now (d .entry)) at (x ∷ y ∷ []) ⌝ }
+{
+    d[at] = x;
+    d[at + 1] = y;
+}
+
+pub fn put_u16(d: &mut [u8], at: usize, x: u16)
+    requires { ⌜ at + 2 ≤ length (now d) ⌝ }
+    ensures { λ _. ⌜ now (d .exit) ≡ put (now (d .entry)) at (bytes 2 x) ⌝ }
+{
+    put_pair(d, at, (x % 256) as u8, (x / 256) as u8);
+}
+
+fn put_u32(d: &mut [u8], at: usize, x: u32)
+    requires { ⌜ at + 4 ≤ length (now d) ⌝ }
+    ensures { λ _. ⌜ now (d .exit) ≡ put (now (d .entry)) at (bytes 4 x) ⌝ }
+{
+    put_u16(d, at, (x % 65536) as u16);
+    put_u16(d, at + 2, (x / 65536) as u16);
+}
+
+pub fn put_word(d: &mut [u8], at: usize, x: u64)
+    requires { ⌜ at + 8 ≤ length (now d) ⌝ }
+    ensures { λ _. ⌜ now (d .exit) ≡ put (now (d .entry)) at (bytes 8 x) ⌝ }
+{
+    put_u32(d, at, (x % 4294967296) as u32);
+    put_u32(d, at + 4, (x / 4294967296) as u32);
+}
+
+// n bytes of s from `from`, put into d at `at`; the rest of d is untouched.
+pub fn copy(s: &[u8], from: usize, d: &mut [u8], at: usize, n: usize)
+    requires { ⌜ from + n ≤ length (now s) ⌝ }
+    requires { ⌜ at + n ≤ length (now d) ⌝ }
+    ensures { λ _. ⌜ now (d .exit) ≡ put (now (d .entry)) at (part n (now (s .entry)) from) ⌝ }
+{
+    let mut k = 0;
+    while k < n {
+        d[at + k] = s[from + k];
+        k += 1;
+    }
+}
+
+// A number of a table as an index.
+pub fn wide(x: u16) -> usize
+    ensures { λ r. ⌜ r ≡ x ⌝ }
+{
+    x as usize
+}

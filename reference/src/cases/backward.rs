@@ -1,0 +1,74 @@
+//! Proofs grown from the conclusion up to given clauses.
+
+use crate::cases::draft::Draft;
+use crate::cases::shapes::clause;
+use crate::clause::{Clause, Literal};
+use crate::rng::Rng;
+
+/// Grows from the conclusion upwards: trees, irregular when variables are few,
+/// with some nodes shared when the same clause is wanted again.
+pub fn backward(rng: &mut Rng, variables: &[u8], size: usize) -> Draft {
+    let goal_width = rng.pick(&[0, 0, 1, 3]);
+    let goal = clause(rng, variables, goal_width);
+    let mut grower = Grower {
+        draft: Draft::default(),
+        variables,
+        share_percent: rng.pick(&[0, 10, 60]),
+        lopsided_percent: rng.pick(&[0, 50, 100]),
+    };
+    grower.prove(rng, goal, size);
+    grower.draft
+}
+
+struct Grower<'a> {
+    draft: Draft,
+    variables: &'a [u8],
+    share_percent: usize,
+    lopsided_percent: usize,
+}
+
+impl Grower<'_> {
+    /// Proves exactly `goal` with at most `budget` new nodes.
+    fn prove(&mut self, rng: &mut Rng, goal: Clause, budget: usize) -> usize {
+        if rng.chance(self.share_percent) {
+            let known = self.draft.nodes.iter().position(|n| *n.clause() == goal);
+            if let Some(number) = known {
+                return number;
+            }
+        }
+        if budget < 3 {
+            return self.draft.give(rng, goal);
+        }
+        let pivot = rng.pick(self.variables);
+        let (left_goal, right_goal) = split(rng, &goal, pivot);
+        let left_budget = if rng.chance(self.lopsided_percent) {
+            rng.pick(&[1, budget - 2])
+        } else {
+            rng.between(1, budget - 2)
+        };
+        let left = self.prove(rng, left_goal, left_budget);
+        let right = self.prove(rng, right_goal, budget - 1 - left_budget);
+        self.draft.resolve(pivot, left, right)
+    }
+}
+
+/// Two clauses that resolve on `pivot` to exactly `goal`. The left one can't
+/// bring +pivot into the result and the right one can't bring -pivot.
+fn split(rng: &mut Rng, goal: &Clause, pivot: u8) -> (Clause, Clause) {
+    let mut left = Clause::default().with(Literal::Plus(pivot));
+    let mut right = Clause::default().with(Literal::Minus(pivot));
+    for literal in goal.literals() {
+        let side = match literal {
+            Literal::Plus(v) if v == pivot => 1,
+            Literal::Minus(v) if v == pivot => 0,
+            _ => rng.below(3),
+        };
+        if side != 1 {
+            left = left.with(literal);
+        }
+        if side != 0 {
+            right = right.with(literal);
+        }
+    }
+    (left, right)
+}

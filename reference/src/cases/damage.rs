@@ -1,0 +1,137 @@
+//! Damage to the bytes of a sheet or a rule table.
+
+use crate::lengths::{LINE, RECORD, RULE_LINES};
+use crate::record::{number, put_number, Record};
+use crate::rng::Rng;
+
+/// One to three faults in records drawn at random, now and then all in the
+/// same record.
+pub fn spoil_records(rng: &mut Rng, sheet: &mut [u8], rules: &[u8]) {
+    let count = sheet.len() / RECORD;
+    let same = rng.chance(30).then(|| rng.below(count));
+    for _ in 0..rng.between(1, 3) {
+        let record = same.unwrap_or_else(|| rng.below(count));
+        let bytes = &mut sheet[record * RECORD..(record + 1) * RECORD];
+        spoil_record(rng, bytes, record, rules.len() / LINE);
+    }
+}
+
+/// One fault, fitting the kind that the record has.
+fn spoil_record(rng: &mut Rng, bytes: &mut [u8], record: usize, lines: usize) {
+    match (rng.below(10), bytes[0]) {
+        (0, _) => bytes[0] = rng.pick(&[0, 1, 2, 3, 4, 0x82, 255]),
+        (1, _) => bytes[rng.below(RECORD)] = rng.byte(),
+        (2, _) => stray_byte(rng, bytes),
+        (_, 1) => spoil_given(rng, bytes, lines),
+        (_, 2) => spoil_step(rng, bytes, record),
+        _ => put_number(bytes, 2, rng.pick(&[0, record, record / 2, 0xFFFF])),
+    }
+}
+
+fn stray_byte(rng: &mut Rng, bytes: &mut [u8]) {
+    if let Some(record) = Record::read(bytes) {
+        bytes[rng.pick(&record.zero_bytes())] = rng.nonzero_byte();
+    }
+}
+
+fn spoil_given(rng: &mut Rng, bytes: &mut [u8], lines: usize) {
+    match rng.below(4) {
+        0 => put_number(bytes, 6, lines),
+        1 => put_number(bytes, 6, rng.pick(&[lines + 1, RULE_LINES, 0xFFFF])),
+        2 => put_number(bytes, 6, rng.below(lines.max(1))),
+        _ => flip_bit(rng, &mut bytes[8..24]),
+    }
+}
+
+fn spoil_step(rng: &mut Rng, bytes: &mut [u8], record: usize) {
+    let side = rng.pick(&[2, 4]);
+    match rng.below(8) {
+        0 => bytes[1] = rng.pick(&[64, 65, 127, 128, 255]),
+        1 => bytes[1] = rng.below(64) as u8,
+        2 => put_number(bytes, side, rng.pick(&[record, record + 1, 512, 0xFFFF])),
+        3 => put_number(bytes, side, rng.below(record + 1)),
+        4 => {
+            put_number(bytes, side, rng.below(record + 1));
+            put_number(bytes, 6 - side, rng.below(record + 2));
+        }
+        5 => {
+            let (left, right) = (number(bytes, 2), number(bytes, 4));
+            put_number(bytes, 2, right);
+            put_number(bytes, 4, left);
+        }
+        _ => flip_bit(rng, &mut bytes[8..24]),
+    }
+}
+
+pub fn flip_bit(rng: &mut Rng, bytes: &mut [u8]) {
+    if !bytes.is_empty() {
+        bytes[rng.below(bytes.len())] ^= 1 << rng.below(8);
+    }
+}
+
+/// Records lost, doubled or exchanged.
+pub fn stir_records(rng: &mut Rng, sheet: &mut Vec<u8>) {
+    let count = sheet.len() / RECORD;
+    let (one, other) = (rng.below(count), rng.below(count));
+    let bytes = sheet[one * RECORD..(one + 1) * RECORD].to_vec();
+    match rng.below(3) {
+        0 => drop(sheet.drain(one * RECORD..(one + 1) * RECORD)),
+        1 => drop(sheet.splice(other * RECORD..other * RECORD, bytes)),
+        _ => {
+            sheet.copy_within(other * RECORD..(other + 1) * RECORD, one * RECORD);
+            sheet[other * RECORD..(other + 1) * RECORD].copy_from_slice(&bytes);
+        }
+    }
+}
+
+/// A length that isn't a whole number of pieces of `unit` bytes.
+pub fn make_ragged(rng: &mut Rng, bytes: &mut Vec<u8>, unit: usize) {
+    let change = rng.between(1, unit - 1);
+    if bytes.len() >= unit && rng.chance(50) {
+        bytes.truncate(bytes.len() - change);
+    } else {
+        let longer = bytes.len() + change;
+        bytes.resize_with(longer, || rng.byte());
+    }
+}
+
+/// Exactly `count` pieces, by cutting off or by repeating the last piece.
+pub fn set_count(bytes: &mut Vec<u8>, unit: usize, count: usize) {
+    let last = match bytes.len().checked_sub(unit) {
+        Some(at) => bytes[at..].to_vec(),
+        None => vec![0; unit],
+    };
+    while bytes.len() < count * unit {
+        bytes.extend(&last);
+    }
+    bytes.truncate(count * unit);
+}
+
+/// A sheet of noise: either any bytes, or records mostly zero, which get
+/// further before they are refused.
+pub fn noise(rng: &mut Rng, count: usize) -> Vec<u8> {
+    let mut sheet = vec![0; count * RECORD];
+    let wild = rng.chance(30);
+    for bytes in sheet.chunks_exact_mut(RECORD) {
+        if wild {
+            bytes.fill_with(|| rng.byte());
+        }
+        bytes[0] = rng.pick(&[0, 1, 1, 1, 2, 2, 3, 3, 4]);
+        if rng.chance(50) {
+            bytes[rng.below(RECORD)] = rng.pick(&[0, 1, 2, 63, 64, 255]);
+        }
+    }
+    sheet
+}
+
+/// A rule table that is refused or as long as can be. The longest are left
+/// out of small cases.
+pub fn spoil_rule_table(rng: &mut Rng, rules: &mut Vec<u8>, small: bool) {
+    match rng.below(if small { 3 } else { 6 }) {
+        0 | 1 => make_ragged(rng, rules, LINE),
+        2 => flip_bit(rng, rules),
+        3 => rules.resize(RULE_LINES * LINE, 0),
+        4 => rules.resize((RULE_LINES + 1) * LINE, 0),
+        _ => rules.resize(RULE_LINES * LINE + rng.between(1, LINE - 1), 0),
+    }
+}

@@ -1,0 +1,65 @@
+//! Random cases by seed.
+
+pub mod backward;
+pub mod damage;
+pub mod dense;
+pub mod draft;
+pub mod drop_damage;
+pub mod forward;
+pub mod press_cases;
+pub mod replay_cases;
+pub mod shapes;
+
+use crate::rng::Rng;
+
+/// The arguments of one call. `room` and `marks` are lengths in bytes, `slots`
+/// is a number of slots.
+#[derive(Clone, Debug, PartialEq, Eq)]
+pub enum Case {
+    Press {
+        sheet: Vec<u8>,
+        rules: Vec<u8>,
+        room: usize,
+        marks: usize,
+    },
+    Replay {
+        sheet: Vec<u8>,
+        rules: Vec<u8>,
+        slots: usize,
+    },
+}
+
+/// Small cases stay within about 16 records, for a slow evaluator; they can't
+/// reach the refusals that need over 512 records or over 1,024 rule lines.
+#[derive(Clone, Copy, Debug, PartialEq, Eq)]
+pub enum Size {
+    Small,
+    Any,
+}
+
+impl Size {
+    /// How many nodes the next proof is to have, if `small` is the most for a
+    /// small case.
+    pub fn nodes(self, rng: &mut Rng, small: usize) -> usize {
+        match (self, rng.below(20)) {
+            (_, 0) => 1,
+            (_, 1..=2) => rng.between(2, 4),
+            (Size::Small, _) => rng.between(small / 2, small),
+            (Size::Any, 3) => rng.between(2, 4),
+            (Size::Any, 4..=9) => rng.between(4, 16),
+            (Size::Any, 10..=16) => rng.between(12, 60),
+            (Size::Any, 17..=18) => rng.between(60, 512),
+            (Size::Any, _) => 512,
+        }
+    }
+}
+
+/// The case of this index under this seed.
+pub fn draw(seed: u64, index: u64, size: Size) -> Case {
+    let mut rng = Rng::new(seed, index);
+    if rng.chance(50) {
+        press_cases::draw(&mut rng, size)
+    } else {
+        replay_cases::draw(&mut rng, size)
+    }
+}

@@ -1,0 +1,132 @@
+//! "A clause is a set of literals", and here it is literally one.
+
+use std::collections::BTreeSet;
+use std::fmt;
+
+/// "Variables are 0 to 63; literals are written +v and -v."
+#[derive(Clone, Copy, PartialEq, Eq, PartialOrd, Ord)]
+pub enum Literal {
+    Plus(u8),
+    Minus(u8),
+}
+
+impl Literal {
+    pub fn variable(self) -> u8 {
+        match self {
+            Literal::Plus(v) | Literal::Minus(v) => v,
+        }
+    }
+}
+
+#[derive(Clone, Default, PartialEq, Eq)]
+pub struct Clause(BTreeSet<Literal>);
+
+impl Clause {
+    /// Reads a positive set followed by a negative set, eight bytes each.
+    pub fn read(sets: &[u8]) -> Clause {
+        let positive = variables(&sets[0..8]).into_iter().map(Literal::Plus);
+        let negative = variables(&sets[8..16]).into_iter().map(Literal::Minus);
+        Clause(positive.chain(negative).collect())
+    }
+
+    /// The positive set followed by the negative set, eight bytes each.
+    pub fn write(&self) -> [u8; 16] {
+        let mut sets = [0; 16];
+        for literal in &self.0 {
+            let (start, v) = match *literal {
+                Literal::Plus(v) => (0, v),
+                Literal::Minus(v) => (8, v),
+            };
+            sets[start + usize::from(v / 8)] |= 1 << (v % 8);
+        }
+        sets
+    }
+
+    pub fn literals(&self) -> impl Iterator<Item = Literal> + '_ {
+        self.0.iter().copied()
+    }
+
+    pub fn holds(&self, literal: Literal) -> bool {
+        self.0.contains(&literal)
+    }
+
+    pub fn with(&self, literal: Literal) -> Clause {
+        let mut literals = self.0.clone();
+        literals.insert(literal);
+        Clause(literals)
+    }
+
+    pub fn without(&self, literal: Literal) -> Clause {
+        let mut literals = self.0.clone();
+        literals.remove(&literal);
+        Clause(literals)
+    }
+
+    pub fn joined(&self, other: &Clause) -> Clause {
+        Clause(self.0.union(&other.0).copied().collect())
+    }
+
+    pub fn is_within(&self, other: &Clause) -> bool {
+        self.0.is_subset(&other.0)
+    }
+
+    pub fn is_empty(&self) -> bool {
+        self.0.is_empty()
+    }
+
+    /// The positive set as a number whose bit v is variable v.
+    pub fn positive(&self) -> u64 {
+        eight(&self.write()[0..8])
+    }
+
+    /// The negative set as a number whose bit v is variable v.
+    pub fn negative(&self) -> u64 {
+        eight(&self.write()[8..16])
+    }
+
+    pub fn from_numbers(positive: u64, negative: u64) -> Clause {
+        Clause::read(&[positive.to_le_bytes(), negative.to_le_bytes()].concat())
+    }
+}
+
+/// "with pivot p, the left clause holds +p, the right holds -p, and the result
+/// is (left without +p) joined with (right without -p)."
+pub fn resolve(pivot: u8, left: &Clause, right: &Clause) -> Clause {
+    left.without(Literal::Plus(pivot))
+        .joined(&right.without(Literal::Minus(pivot)))
+}
+
+/// "Variable v is bit v mod 8 of byte v div 8 of an eight-byte set."
+fn variables(set: &[u8]) -> Vec<u8> {
+    (0..64)
+        .filter(|v| set[usize::from(v / 8)] >> (v % 8) & 1 == 1)
+        .collect()
+}
+
+fn eight(bytes: &[u8]) -> u64 {
+    bytes
+        .iter()
+        .rev()
+        .fold(0, |number, &byte| number << 8 | u64::from(byte))
+}
+
+impl FromIterator<Literal> for Clause {
+    fn from_iter<I: IntoIterator<Item = Literal>>(literals: I) -> Clause {
+        Clause(literals.into_iter().collect())
+    }
+}
+
+impl fmt::Debug for Literal {
+    fn fmt(&self, f: &mut fmt::Formatter) -> fmt::Result {
+        match self {
+            Literal::Plus(v) => write!(f, "+{v}"),
+            Literal::Minus(v) => write!(f, "-{v}"),
+        }
+    }
+}
+
+impl fmt::Debug for Clause {
+    fn fmt(&self, f: &mut fmt::Formatter) -> fmt::Result {
+        f.debug_set().entries(&self.0).finish()
+    }
+}

@@ -1,0 +1,164 @@
+//! Interesting things that may happen inside an accepted press.
+
+use crate::lengths::PRESS_RECORDS;
+use crate::passes::drops::peak;
+use crate::passes::order::order_by;
+use crate::passes::rebuild::Why;
+use crate::passes::recycle::{uncut_edges, Edge};
+use crate::press::Passes;
+use crate::proof::{Node, Proof};
+use crate::record::Record;
+use std::collections::{BTreeMap, BTreeSet};
+
+pub type Event = (&'static str, bool);
+
+/// What happened inside an accepted press.
+pub fn pass_events(passes: &Passes) -> Vec<Event> {
+    let parts = [
+        shortening_events(passes),
+        order_events(passes),
+        output_events(passes),
+    ];
+    parts.concat()
+}
+
+/// Steps 1 to 4.
+fn shortening_events(passes: &Passes) -> Vec<Event> {
+    let trimmed = passes.trimmed.nodes.len();
+    let rebuilt = passes.rebuilt.nodes.len();
+    let cut = |edge| passes.visits.values().any(|visit| visit.cut == Some(edge));
+    let why = |why| passes.rebuilt.why.values().any(|w| *w == why);
+    let resets = resets(passes);
+    vec![
+        ("trim: unused records", trimmed < passes.input.nodes.len()),
+        ("recycle: left edge cut", cut(Edge::Left)),
+        ("recycle: right edge cut", cut(Edge::Right)),
+        ("recycle: S handed on cuts again", cuts_again(passes)),
+        ("recycle: S reset by two uses", !resets.is_empty()),
+        ("recycle: the reset prevented a cut", resets.contains(&true)),
+        (
+            "rebuild: left stand-in lacks pivot",
+            why(Why::LeftLacksPivot),
+        ),
+        (
+            "rebuild: right stand-in lacks pivot",
+            why(Why::RightLacksPivot),
+        ),
+        (
+            "rebuild: a new step has a new clause",
+            has_new_clause(passes),
+        ),
+        (
+            "second trim: removed something",
+            passes.pressed.nodes.len() < rebuilt,
+        ),
+    ]
+}
+
+fn output_events(passes: &Passes) -> Vec<Event> {
+    let pressed = &passes.pressed;
+    let peak = peak(&passes.records);
+    let differs = pressed.conclusion() != passes.input.conclusion();
+    vec![
+        (
+            "output: conclusion not empty",
+            !pressed.conclusion().is_empty(),
+        ),
+        ("output: conclusion has fewer literals", differs),
+        (
+            "output: a node named twice by one step",
+            names_twice(pressed),
+        ),
+        (
+            "output: a rule line named by two nodes",
+            names_line_twice(passes),
+        ),
+        ("output: peak over 3", peak > 3),
+        ("output: peak over 8", peak > 8),
+        ("output: depth 512", depth(pressed) == PRESS_RECORDS),
+    ]
+}
+
+/// Whether the preference among premises made a difference: against going left
+/// always, against ties going right, and against counting children as 002 does.
+fn order_events(passes: &Passes) -> Vec<Event> {
+    let pressed = &passes.pressed;
+    let uses = pressed.uses();
+    let children = |number: usize| {
+        let names_it = |node: &&Node| node.parents().contains(&number);
+        pressed.nodes.values().filter(names_it).count()
+    };
+    let counts: BTreeMap<usize, usize> = pressed.nodes.keys().map(|&n| (n, children(n))).collect();
+    let differs =
+        |right_first: &dyn Fn(usize, usize) -> bool| order_by(pressed, right_first) != passes.order;
+    vec![
+        ("order: decided by uses", differs(&|_, _| false)),
+        (
+            "order: decided by tie going left",
+            differs(&|l, r| uses[&r] >= uses[&l]),
+        ),
+        (
+            "order: counting children would differ",
+            differs(&|l, r| counts[&r] > counts[&l]),
+        ),
+    ]
+}
+
+/// One entry for each edge into a step with two or more uses that would have
+/// handed over literals: whether one of them would have cut that step.
+fn resets(passes: &Passes) -> BTreeSet<bool> {
+    let uses = passes.trimmed.uses();
+    let edges = passes
+        .visits
+        .iter()
+        .flat_map(|(number, visit)| uncut_edges(&passes.trimmed.nodes[number], visit));
+    let mut resets = BTreeSet::new();
+    for (parent, handed) in edges.filter(|(parent, _)| uses[parent] >= 2) {
+        if let Node::Step { pivot, .. } = passes.trimmed.nodes[&parent] {
+            let mut variables = handed.literals().map(|literal| literal.variable());
+            resets.insert(variables.any(|variable| variable == pivot));
+        }
+    }
+    resets
+}
+
+/// Whether a cut step's kept parent is cut in its turn.
+fn cuts_again(passes: &Passes) -> bool {
+    let mut cut_steps = passes
+        .visits
+        .iter()
+        .filter(|(_, visit)| visit.cut.is_some());
+    cut_steps.any(|(number, visit)| {
+        let kept = uncut_edges(&passes.trimmed.nodes[number], visit);
+        kept.iter()
+            .any(|(parent, _)| passes.visits[parent].cut.is_some())
+    })
+}
+
+fn has_new_clause(passes: &Passes) -> bool {
+    let differs = |(n, node): (&usize, &Node)| node.clause() != passes.trimmed.nodes[n].clause();
+    passes.pressed.nodes.iter().any(differs)
+}
+
+fn names_twice(proof: &Proof) -> bool {
+    let twice = |node: &Node| matches!(node, Node::Step { left, right, .. } if left == right);
+    proof.nodes.values().any(twice)
+}
+
+fn names_line_twice(passes: &Passes) -> bool {
+    let mut lines = BTreeSet::new();
+    passes.records.iter().any(|record| match record {
+        Record::Node(Node::Given { line, .. }) => !lines.insert(*line),
+        _ => false,
+    })
+}
+
+/// The number of nodes on the longest path of parents.
+fn depth(proof: &Proof) -> usize {
+    let mut depths: BTreeMap<usize, usize> = BTreeMap::new();
+    for (&number, node) in &proof.nodes {
+        let above = node.parents().iter().map(|parent| depths[parent]).max();
+        depths.insert(number, above.unwrap_or(0) + 1);
+    }
+    depths[&proof.sink]
+}

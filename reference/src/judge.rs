@@ -1,0 +1,111 @@
+//! Whether one record is good, given what came before it.
+
+use crate::clause::{resolve, Clause, Literal};
+use crate::lengths::LINE;
+use crate::proof::Node;
+use crate::record::Record;
+use std::collections::BTreeSet;
+
+/// What came of a node number that a record names.
+pub enum Named {
+    NotEarlier,
+    Dropped,
+    Held(Clause),
+}
+
+/// What the judge knows besides the bytes of the record.
+pub struct Around<'a> {
+    pub rules: &'a [u8],
+    pub is_press: bool,
+    pub named: &'a dyn Fn(usize) -> Named,
+    pub every_slot_holds_a_node: bool,
+}
+
+/// "the first bad record answers, with the smallest number that applies."
+pub fn judge(bytes: &[u8], faults: &BTreeSet<u32>) -> Result<Record, u32> {
+    match faults.first() {
+        Some(&number) => Err(number),
+        None => Ok(Record::read(bytes).expect("a faultless record reads")),
+    }
+}
+
+/// All numbers of the table that apply, so that "the smallest" is plain to see
+/// and no order of checking is hidden in the code.
+pub fn faults(bytes: &[u8], around: &Around) -> BTreeSet<u32> {
+    let Some(record) = Record::read(bytes) else {
+        return BTreeSet::from([6]);
+    };
+    let mut faults = BTreeSet::new();
+    if record.zero_bytes().iter().any(|&at| bytes[at] != 0) {
+        faults.insert(7);
+    }
+    match record {
+        Record::Node(node) => {
+            if around.every_slot_holds_a_node {
+                faults.insert(15);
+            }
+            faults.extend(node_faults(&node, around));
+        }
+        Record::Drop { node } => {
+            if around.is_press {
+                faults.insert(6);
+            }
+            faults.extend(naming_fault(&(around.named)(node)));
+        }
+    }
+    faults
+}
+
+fn node_faults(node: &Node, around: &Around) -> BTreeSet<u32> {
+    match node {
+        Node::Given { line, clause } => given_faults(*line, clause, around.rules),
+        Node::Step {
+            pivot,
+            left,
+            right,
+            clause,
+        } => {
+            let left = (around.named)(*left);
+            let right = (around.named)(*right);
+            step_faults(*pivot, &left, &right, clause)
+        }
+    }
+}
+
+/// "13 rule line beyond the table", "14 given clause differs from its rule line".
+fn given_faults(line: usize, clause: &Clause, rules: &[u8]) -> BTreeSet<u32> {
+    match rules.chunks_exact(LINE).nth(line) {
+        None => BTreeSet::from([13]),
+        Some(rule) if Clause::read(rule) != *clause => BTreeSet::from([14]),
+        Some(_) => BTreeSet::new(),
+    }
+}
+
+/// "8 pivot over 63", "11 +p missing on the left or -p on the right",
+/// "12 written clause isn't the result".
+fn step_faults(pivot: u8, left: &Named, right: &Named, written: &Clause) -> BTreeSet<u32> {
+    let mut faults = BTreeSet::new();
+    if pivot > 63 {
+        faults.insert(8);
+    }
+    faults.extend(naming_fault(left));
+    faults.extend(naming_fault(right));
+    if let (Named::Held(left), Named::Held(right)) = (left, right) {
+        if !left.holds(Literal::Plus(pivot)) || !right.holds(Literal::Minus(pivot)) {
+            faults.insert(11);
+        }
+        if resolve(pivot, left, right) != *written {
+            faults.insert(12);
+        }
+    }
+    faults
+}
+
+/// "9 named node isn't earlier", "10 named node was dropped".
+fn naming_fault(named: &Named) -> Option<u32> {
+    match named {
+        Named::NotEarlier => Some(9),
+        Named::Dropped => Some(10),
+        Named::Held(_) => None,
+    }
+}

@@ -1,0 +1,21 @@
+//! An independent second program for the press and the replay of document 01.
+//!
+//! It was written from document 01 alone, with ordinary collections and no
+//! thought for memory, so that agreement with the proved program means
+//! something. Quotations in the comments are sentences of document 01.
+
+pub mod cases;
+pub mod clause;
+pub mod events;
+pub mod judge;
+pub mod lengths;
+pub mod passes;
+pub mod press;
+pub mod program;
+pub mod proof;
+pub mod record;
+pub mod refusal;
+pub mod replay;
+pub mod rng;
+pub mod stats;
+pub mod text;

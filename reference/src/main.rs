@@ -1,0 +1,84 @@
+//! `reference cases`, `reference press` and `reference stats`.
+
+use reference::cases::{draw, Size};
+use reference::{program, stats, text};
+use std::io::{self, Write};
+use std::path::Path;
+use std::process::ExitCode;
+
+const USAGE: &str = "usage:
+  reference cases --seed S --count N [--small] [--trace]
+  reference press DIR
+  reference stats --seed S --count N [--small]";
+
+fn main() -> ExitCode {
+    let words: Vec<String> = std::env::args().skip(1).collect();
+    let words: Vec<&str> = words.iter().map(String::as_str).collect();
+    let done = match words.as_slice() {
+        ["press", dir] => print(&format!("{}\n", program::run(Path::new(dir)))),
+        ["cases", flags @ ..] => with_drawing(flags, print_cases),
+        ["stats", flags @ ..] => with_drawing(flags, print_stats),
+        _ => Err(USAGE.to_string()),
+    };
+    match done {
+        Ok(()) => ExitCode::SUCCESS,
+        Err(message) => {
+            eprintln!("{message}");
+            ExitCode::FAILURE
+        }
+    }
+}
+
+struct Drawing {
+    seed: u64,
+    count: u64,
+    size: Size,
+    trace: bool,
+}
+
+fn with_drawing(
+    flags: &[&str],
+    run: impl Fn(&Drawing) -> Result<(), String>,
+) -> Result<(), String> {
+    let mut drawing = Drawing {
+        seed: 1,
+        count: 100,
+        size: Size::Any,
+        trace: false,
+    };
+    let mut flags = flags.iter();
+    while let Some(&flag) = flags.next() {
+        let mut number = || {
+            let word = flags.next().ok_or(USAGE)?;
+            word.parse().map_err(|_| USAGE)
+        };
+        match flag {
+            "--seed" => drawing.seed = number()?,
+            "--count" => drawing.count = number()?,
+            "--small" => drawing.size = Size::Small,
+            "--trace" => drawing.trace = true,
+            _ => return Err(USAGE.to_string()),
+        }
+    }
+    run(&drawing)
+}
+
+fn print_cases(drawing: &Drawing) -> Result<(), String> {
+    for index in 0..drawing.count {
+        let case = draw(drawing.seed, index, drawing.size);
+        print(&format!("{}\n", text::block(&case, drawing.trace)))?;
+    }
+    Ok(())
+}
+
+fn print_stats(drawing: &Drawing) -> Result<(), String> {
+    let stats = stats::gather(drawing.seed, drawing.count, drawing.size);
+    print(&stats.table())?;
+    print(&format!("\nnever answered: {:?}\n", stats.missing()))
+}
+
+/// Unlike `print!`, a closed pipe is an error here and not a panic.
+fn print(text: &str) -> Result<(), String> {
+    let written = io::stdout().write_all(text.as_bytes());
+    written.map_err(|error| format!("cannot print: {error}"))
+}

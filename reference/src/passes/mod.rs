@@ -1,0 +1,8 @@
+//! The six passes of "How a sheet is pressed", one file each (steps 1 and 4
+//! are the same pass).
+
+pub mod drops;
+pub mod order;
+pub mod rebuild;
+pub mod recycle;
+pub mod trim;

@@ -1,0 +1,126 @@
+//! The press.
+
+use crate::judge::{faults, judge, Around, Named};
+use crate::lengths::{check_inputs, check_room, LINE, PRESS_RECORDS, RECORD};
+use crate::passes::drops::{peak, with_drops};
+use crate::passes::order::order;
+use crate::passes::rebuild::{rebuild, Rebuilt};
+use crate::passes::recycle::{recycle, Visits};
+use crate::passes::trim::trim;
+use crate::proof::{Node, Proof};
+use crate::record::Record;
+use crate::refusal::Refusal;
+use std::collections::{BTreeMap, BTreeSet};
+
+/// "An accepted press returns conclusion, record count, node count, step count
+/// (resolution records), peak and number of marked lines."
+#[derive(Clone, Copy, Debug, PartialEq, Eq)]
+pub struct Pressed {
+    pub positive: u64,
+    pub negative: u64,
+    pub records: usize,
+    pub nodes: usize,
+    pub steps: usize,
+    pub peak: usize,
+    pub marked: usize,
+}
+
+/// What every pass left behind, kept so that tests and the coverage table can
+/// look inside a press.
+pub struct Passes {
+    pub input: Proof,
+    pub trimmed: Proof,
+    pub visits: Visits,
+    pub rebuilt: Rebuilt,
+    pub pressed: Proof,
+    pub order: Vec<usize>,
+    pub records: Vec<Record>,
+}
+
+/// "A refused press changes neither output nor marks." Both are written only
+/// once nothing can be refused any more.
+pub fn press(
+    sheet: &[u8],
+    rules: &[u8],
+    out: &mut [u8],
+    marks: &mut [u8],
+) -> Result<Pressed, Refusal> {
+    check_inputs(sheet.len(), rules.len(), PRESS_RECORDS)?;
+    check_room(sheet.len(), rules.len(), out.len(), marks.len())?;
+    let passes = run_passes(read_proof(sheet, rules)?);
+    let core = core(&passes.records);
+
+    let bytes: Vec<u8> = passes.records.iter().flat_map(Record::write).collect();
+    out[..bytes.len()].copy_from_slice(&bytes);
+    for (line, mark) in marks.iter_mut().enumerate().take(rules.len() / LINE) {
+        *mark = u8::from(core.contains(&line));
+    }
+    let conclusion = passes.pressed.conclusion();
+    Ok(Pressed {
+        positive: conclusion.positive(),
+        negative: conclusion.negative(),
+        records: passes.records.len(),
+        nodes: passes.pressed.nodes.len(),
+        steps: passes.pressed.steps(),
+        peak: peak(&passes.records),
+        marked: core.len(),
+    })
+}
+
+/// "Then records in order: the first bad record answers". A good sheet has no
+/// drops here, so a record's number is its node's number.
+pub fn read_proof(sheet: &[u8], rules: &[u8]) -> Result<Proof, Refusal> {
+    let mut nodes: BTreeMap<usize, Node> = BTreeMap::new();
+    for (record, bytes) in sheet.chunks_exact(RECORD).enumerate() {
+        match judge(bytes, &record_faults(&nodes, bytes, rules)) {
+            Err(number) => return Err(Refusal { number, record }),
+            Ok(Record::Node(node)) => nodes.insert(record, node),
+            Ok(Record::Drop { .. }) => unreachable!("the press refuses kind 3"),
+        };
+    }
+    let sink = nodes.len() - 1;
+    Ok(Proof { nodes, sink })
+}
+
+/// All numbers of the table that apply to this record after these nodes.
+pub fn record_faults(earlier: &BTreeMap<usize, Node>, bytes: &[u8], rules: &[u8]) -> BTreeSet<u32> {
+    let named = |number: usize| match earlier.get(&number) {
+        Some(node) => Named::Held(node.clause().clone()),
+        None => Named::NotEarlier,
+    };
+    let around = Around {
+        rules,
+        is_press: true,
+        named: &named,
+        every_slot_holds_a_node: false,
+    };
+    faults(bytes, &around)
+}
+
+/// "How a sheet is pressed", steps 1 to 6.
+pub fn run_passes(input: Proof) -> Passes {
+    let trimmed = trim(&input.nodes, input.sink);
+    let visits = recycle(&trimmed);
+    let rebuilt = rebuild(&trimmed, &visits);
+    let pressed = trim(&rebuilt.nodes, rebuilt.stand_ins[&trimmed.sink]);
+    let order = order(&pressed);
+    let records = with_drops(&pressed, &order);
+    Passes {
+        input,
+        trimmed,
+        visits,
+        rebuilt,
+        pressed,
+        order,
+        records,
+    }
+}
+
+/// "The core is the set of rule lines of the emitted given records."
+fn core(records: &[Record]) -> BTreeSet<usize> {
+    let line = |record: &Record| match record {
+        Record::Node(Node::Given { line, .. }) => Some(*line),
+        _ => None,
+    };
+    records.iter().filter_map(line).collect()
+}

@@ -1,0 +1,64 @@
+//! The small program: "reads `rules.bin` and `sheet.bin`, presses, writes
+//! `pressed.bin` if accepted (else leaves that file alone), and prints one
+//! line."
+
+use crate::lengths::{check_inputs, room_needed, LINE, PRESS_RECORDS, RECORD, RULE_LINES};
+use crate::press::{press, Pressed};
+use std::fs::{self, File};
+use std::io::{self, Read};
+use std::path::Path;
+
+/// A file's whole length, and as much of it as can matter.
+struct Contents {
+    length: usize,
+    start: Vec<u8>,
+}
+
+/// The line to print.
+pub fn run(dir: &Path) -> String {
+    answer(dir).unwrap_or_else(|line| line)
+}
+
+/// "If a file can't be read it prints `unreadable` and the name, `rules.bin`
+/// tried first. If `pressed.bin` can't be written it prints `unwritable
+/// pressed.bin` instead."
+fn answer(dir: &Path) -> Result<String, String> {
+    let open = |name: &str, most: usize| {
+        read(&dir.join(name), most).map_err(|_| format!("unreadable {name}"))
+    };
+    let rules = open("rules.bin", RULE_LINES * LINE)?;
+    let sheet = open("sheet.bin", PRESS_RECORDS * RECORD)?;
+    let (pressed, out) = press_contents(&sheet, &rules)?;
+    fs::write(dir.join("pressed.bin"), out).map_err(|_| "unwritable pressed.bin".to_string())?;
+    Ok(ok_line(&pressed))
+}
+
+/// "It judges a file by its whole length, however little of it fits in
+/// memory." Lengths that pass are small enough to have been read in full.
+fn press_contents(sheet: &Contents, rules: &Contents) -> Result<(Pressed, Vec<u8>), String> {
+    check_inputs(sheet.length, rules.length, PRESS_RECORDS)
+        .map_err(|refusal| refusal.to_string())?;
+    let mut out = vec![0; room_needed(sheet.length / RECORD)];
+    let mut marks = vec![0; rules.length / LINE];
+    let pressed = press(&sheet.start, &rules.start, &mut out, &mut marks)
+        .map_err(|refusal| refusal.to_string())?;
+    out.truncate(pressed.records * RECORD);
+    Ok((pressed, out))
+}
+
+fn read(path: &Path, most: usize) -> io::Result<Contents> {
+    let mut file = File::open(path)?;
+    let mut start = vec![];
+    file.by_ref().take(most as u64).read_to_end(&mut start)?;
+    let rest = io::copy(&mut file, &mut io::sink())?;
+    let length = start.len() + rest as usize;
+    Ok(Contents { length, start })
+}
+
+/// "The program prints `ok records 5 nodes 3 steps 1 peak 3 core 2`."
+fn ok_line(pressed: &Pressed) -> String {
+    format!(
+        "ok records {} nodes {} steps {} peak {} core {}",
+        pressed.records, pressed.nodes, pressed.steps, pressed.peak, pressed.marked
+    )
+}

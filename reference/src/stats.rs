@@ -1,0 +1,175 @@
+//! How often each refusal and each interesting event occurs, so that the
+//! generator's coverage is measured and not assumed.
+
+use crate::cases::{draw, Case, Size};
+use crate::events::{pass_events, Event};
+use crate::lengths::{room_needed, LINE, PRESS_RECORDS, RECORD, REPLAY_RECORDS, RULE_LINES};
+use crate::press::{press, read_proof, record_faults, run_passes};
+use crate::record::Record;
+use crate::replay::{replay_watched, step, step_faults, Slot, Tally};
+use std::collections::{BTreeMap, BTreeSet};
+
+#[derive(Default)]
+pub struct Stats {
+    press: BTreeMap<u32, usize>,
+    replay: BTreeMap<u32, usize>,
+    events: BTreeMap<&'static str, usize>,
+    together: BTreeMap<BTreeSet<u32>, usize>,
+}
+
+/// The number under which accepted calls are counted.
+const ACCEPTED: u32 = 0;
+
+pub fn gather(seed: u64, count: u64, size: Size) -> Stats {
+    let mut stats = Stats::default();
+    for index in 0..count {
+        match draw(seed, index, size) {
+            Case::Press {
+                sheet,
+                rules,
+                room,
+                marks,
+            } => stats.count_press(&sheet, &rules, room, marks),
+            Case::Replay {
+                sheet,
+                rules,
+                slots,
+            } => stats.count_replay(&sheet, &rules, slots),
+        }
+    }
+    stats
+}
+
+impl Stats {
+    fn count_press(&mut self, sheet: &[u8], rules: &[u8], room: usize, marks: usize) {
+        let records = sheet.len() / RECORD;
+        let (mut out, mut marks) = (vec![0; room], vec![0; marks]);
+        match press(sheet, rules, &mut out, &mut marks) {
+            Err(refusal) => {
+                *self.press.entry(refusal.number).or_default() += 1;
+                if refusal.number > 5 {
+                    self.count_together(press_faults_at(sheet, rules, refusal.record));
+                }
+            }
+            Ok(_) => {
+                *self.press.entry(ACCEPTED).or_default() += 1;
+                let proof = read_proof(sheet, rules).expect("it was accepted");
+                self.count_events(&pass_events(&run_passes(proof)));
+                self.count_events(&[
+                    ("press: 512 records accepted", records == PRESS_RECORDS),
+                    ("press: room exactly 48N-24", room == room_needed(records)),
+                    ("press: 1024 rule lines", rules.len() / LINE == RULE_LINES),
+                ]);
+            }
+        }
+    }
+
+    fn count_replay(&mut self, sheet: &[u8], rules: &[u8], slots: usize) {
+        let records = sheet.len() / RECORD;
+        let mut row = vec![Slot::default(); slots];
+        let mut seen = Seen::default();
+        match replay_watched(sheet, rules, &mut row, |tally, row| seen.note(tally, row)) {
+            Err(refusal) => {
+                *self.replay.entry(refusal.number).or_default() += 1;
+                if (6..16).contains(&refusal.number) {
+                    self.count_together(replay_faults_at(sheet, rules, slots, refusal.record));
+                }
+            }
+            Ok(_) => {
+                *self.replay.entry(ACCEPTED).or_default() += 1;
+                self.count_events(&[
+                    ("replay: accepted with drops", seen.dropped),
+                    ("replay: a slot used again", seen.reused),
+                    ("replay: slots exactly peak", seen.peak == slots),
+                    ("replay: 1023 records accepted", records == REPLAY_RECORDS),
+                ]);
+            }
+        }
+    }
+
+    fn count_events(&mut self, events: &[Event]) {
+        for &(name, happened) in events {
+            *self.events.entry(name).or_default() += usize::from(happened);
+        }
+    }
+
+    /// Several numbers applying at once is what "the smallest" is about.
+    fn count_together(&mut self, numbers: BTreeSet<u32>) {
+        if numbers.len() > 1 {
+            *self.together.entry(numbers).or_default() += 1;
+        }
+    }
+
+    /// The table that `reference stats` prints.
+    pub fn table(&self) -> String {
+        let mut table = String::from("number        press   replay\n");
+        for number in 0..=16 {
+            let name = match number {
+                ACCEPTED => "accepted".to_string(),
+                _ => format!("refused {number}"),
+            };
+            let press = self.press.get(&number).unwrap_or(&0);
+            let replay = self.replay.get(&number).unwrap_or(&0);
+            table += &format!("{name:<12} {press:>6}   {replay:>6}\n");
+        }
+        table += "\nevent (number of accepted cases)\n";
+        for (name, count) in &self.events {
+            table += &format!("{name:<44} {count:>6}\n");
+        }
+        table += "\nnumbers that applied together to the first bad record\n";
+        for (numbers, count) in &self.together {
+            table += &format!("{:<44} {count:>6}\n", format!("{numbers:?}"));
+        }
+        table
+    }
+
+    /// Numbers that never occurred although the call can answer them.
+    pub fn missing(&self) -> Vec<String> {
+        let press = (1..=14).filter(|n| *n != 10 && !self.press.contains_key(n));
+        let replay = (1..=16).filter(|n| *n != 5 && !self.replay.contains_key(n));
+        let press = press.map(|n| format!("press {n}"));
+        press.chain(replay.map(|n| format!("replay {n}"))).collect()
+    }
+}
+
+/// What a watched replay showed.
+#[derive(Default)]
+struct Seen {
+    peak: usize,
+    dropped: bool,
+    reused: bool,
+}
+
+impl Seen {
+    fn note(&mut self, tally: &Tally, row: &[Slot]) {
+        self.peak = tally.peak;
+        self.dropped |= tally.held < tally.next;
+        let mut row = row.iter().enumerate();
+        self.reused |= row.any(|(at, slot)| slot.used && slot.node > at);
+    }
+}
+
+/// All numbers that apply to the record a press stopped at.
+fn press_faults_at(sheet: &[u8], rules: &[u8], record: usize) -> BTreeSet<u32> {
+    let mut earlier = BTreeMap::new();
+    let mut records = sheet.chunks_exact(RECORD);
+    for (number, bytes) in records.by_ref().take(record).enumerate() {
+        if let Some(Record::Node(node)) = Record::read(bytes) {
+            earlier.insert(number, node);
+        }
+    }
+    let bad = records.next().expect("the bad record");
+    record_faults(&earlier, bad, rules)
+}
+
+/// All numbers that apply to the record a replay stopped at.
+fn replay_faults_at(sheet: &[u8], rules: &[u8], slots: usize, record: usize) -> BTreeSet<u32> {
+    let mut row = vec![Slot::default(); slots];
+    let mut tally = Tally::default();
+    let mut records = sheet.chunks_exact(RECORD);
+    for bytes in records.by_ref().take(record) {
+        step(&mut tally, &mut row, bytes, rules).expect("earlier records are good");
+    }
+    let bad = records.next().expect("the bad record");
+    step_faults(&tally, &row, bad, rules)
+}

@@ -1,0 +1,131 @@
+//! Cases and their answers as lines of text.
+//!
+//! Each case is a block of lines that ends with an empty line. Words are
+//! separated by single spaces. Byte strings are lower-case hex, `-` if empty;
+//! sets are numbers of 16 hex digits whose bit v is variable v; all else is
+//! decimal.
+//!
+//! ```text
+//! press <sheet> <rules> <bytes of room> <bytes of marks>
+//! = ok <positive> <negative> records R nodes N steps S peak P marked M
+//! out <the emitted records>
+//! marks <one byte for each rule line>
+//!
+//! replay <sheet> <rules> <slots>
+//! = ok <positive> <negative> nodes N steps S peak P
+//! ```
+//!
+//! A refusal is `= refused <number> <record>`, with no `out` and no `marks`.
+//! With `--trace`, after the answer of a replay comes one line for each record
+//! taken (so none for a refused record):
+//! `tally <next> <held> <peak> <steps> slots` and then a word for each slot,
+//! `-` if free and `<node>:<positive>:<negative>` if in use.
+
+use crate::cases::Case;
+use crate::lengths::{LINE, RECORD};
+use crate::press::{press, Pressed};
+use crate::refusal::Refusal;
+use crate::replay::{replay_watched, Replayed, Slot, Tally};
+
+/// The block of one case, without the empty line that ends it.
+pub fn block(case: &Case, with_trace: bool) -> String {
+    match case {
+        Case::Press {
+            sheet,
+            rules,
+            room,
+            marks,
+        } => press_block(sheet, rules, *room, *marks),
+        Case::Replay {
+            sheet,
+            rules,
+            slots,
+        } => replay_block(sheet, rules, *slots, with_trace),
+    }
+}
+
+fn press_block(sheet: &[u8], rules: &[u8], room: usize, marks: usize) -> String {
+    let question = format!("press {} {} {room} {marks}\n", hex(sheet), hex(rules));
+    let mut out = vec![0; room];
+    let mut marks = vec![0; marks];
+    question
+        + &match press(sheet, rules, &mut out, &mut marks) {
+            Err(refusal) => refused(&refusal),
+            Ok(pressed) => {
+                out.truncate(pressed.records * RECORD);
+                marks.truncate(rules.len() / LINE);
+                let ok = pressed_line(&pressed);
+                format!("{ok}out {}\nmarks {}\n", hex(&out), hex(&marks))
+            }
+        }
+}
+
+fn replay_block(sheet: &[u8], rules: &[u8], slots: usize, with_trace: bool) -> String {
+    let question = format!("replay {} {} {slots}\n", hex(sheet), hex(rules));
+    let mut trace = String::new();
+    let mut slots = vec![Slot::default(); slots];
+    let answer = replay_watched(sheet, rules, &mut slots, |tally, slots| {
+        if with_trace {
+            trace += &trace_line(tally, slots);
+        }
+    });
+    question
+        + &match answer {
+            Err(refusal) => refused(&refusal),
+            Ok(replayed) => replayed_line(&replayed),
+        }
+        + &trace
+}
+
+fn refused(refusal: &Refusal) -> String {
+    format!("= refused {} {}\n", refusal.number, refusal.record)
+}
+
+fn pressed_line(pressed: &Pressed) -> String {
+    format!(
+        "= ok {:016x} {:016x} records {} nodes {} steps {} peak {} marked {}\n",
+        pressed.positive,
+        pressed.negative,
+        pressed.records,
+        pressed.nodes,
+        pressed.steps,
+        pressed.peak,
+        pressed.marked
+    )
+}
+
+fn replayed_line(replayed: &Replayed) -> String {
+    format!(
+        "= ok {:016x} {:016x} nodes {} steps {} peak {}\n",
+        replayed.positive, replayed.negative, replayed.nodes, replayed.steps, replayed.peak
+    )
+}
+
+fn trace_line(tally: &Tally, slots: &[Slot]) -> String {
+    let slots: String = slots.iter().map(slot_word).collect();
+    let Tally {
+        next,
+        held,
+        peak,
+        steps,
+    } = tally;
+    format!("tally {next} {held} {peak} {steps} slots{slots}\n")
+}
+
+fn slot_word(slot: &Slot) -> String {
+    if slot.used {
+        format!(
+            " {}:{:016x}:{:016x}",
+            slot.node, slot.positive, slot.negative
+        )
+    } else {
+        " -".to_string()
+    }
+}
+
+fn hex(bytes: &[u8]) -> String {
+    if bytes.is_empty() {
+        return "-".to_string();
+    }
+    bytes.iter().map(|byte| format!("{byte:02x}")).collect()
+}

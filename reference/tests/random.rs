@@ -1,0 +1,128 @@
+//! Random sheets that check themselves.
+
+mod common;
+
+use common::*;
+use reference::cases::{draw, Case, Size};
+use reference::clause::Clause;
+use reference::lengths::RECORD;
+use reference::press::{press, read_proof};
+use reference::replay::Replayed;
+use reference::stats::gather;
+
+const CASES: u64 = 1500;
+
+/// What an accepted press promises, checked with the replay.
+fn check_press(sheet: &[u8], rules: &[u8], room: usize, marks: usize) {
+    let (mut out, mut marks) = (vec![OLD; room], vec![OLD; marks]);
+    let Ok(pressed) = press(sheet, rules, &mut out, &mut marks) else {
+        assert!(out.iter().chain(&marks).all(|&byte| byte == OLD));
+        return;
+    };
+    let done = press_ok(sheet, rules);
+    assert_eq!(done.pressed, pressed);
+    let expected = Replayed {
+        positive: pressed.positive,
+        negative: pressed.negative,
+        nodes: pressed.nodes,
+        steps: pressed.steps,
+        peak: pressed.peak,
+    };
+    assert_eq!(replay_answer(&done.out, rules, pressed.peak), Ok(expected));
+    let short = replay_answer(&done.out, rules, pressed.peak - 1);
+    assert!(matches!(short, Err((15, _))));
+
+    let input = read_proof(sheet, rules).unwrap();
+    let conclusion = Clause::from_numbers(pressed.positive, pressed.negative);
+    assert!(conclusion.is_within(input.conclusion()));
+    assert!(pressed.steps <= input.steps());
+    assert_eq!(pressed.records, 2 * pressed.nodes - 1);
+    check_every_other_node_is_dropped_once(&done.out, pressed.nodes);
+}
+
+fn check_every_other_node_is_dropped_once(out: &[u8], nodes: usize) {
+    let drops = out.chunks_exact(RECORD).filter(|bytes| bytes[0] == 3);
+    let mut dropped: Vec<u16> = drops
+        .map(|bytes| u16::from_le_bytes([bytes[2], bytes[3]]))
+        .collect();
+    dropped.sort_unstable();
+    assert!(dropped.iter().map(|&n| usize::from(n)).eq(0..nodes - 1));
+}
+
+/// What any replay promises of its tally and slots, record by record.
+fn check_replay(sheet: &[u8], rules: &[u8], slots: usize) {
+    let (answer, trace) = replay_traced(sheet, rules, slots);
+    let mut peak = 0;
+    for (tally, row) in &trace {
+        let held = row.iter().filter(|slot| slot.used).count();
+        peak = peak.max(held);
+        assert_eq!((tally.held, tally.peak), (held, peak));
+        assert!(row.iter().all(|slot| slot.used || *slot == FREE));
+    }
+    match answer {
+        Err((1..=4, record)) => assert_eq!((record, trace.len()), (0, 0)),
+        Err((_, record)) => assert_eq!(record, trace.len()),
+        Ok(replayed) => {
+            let (last, row) = &trace[sheet.len() / RECORD - 1];
+            let sink = row
+                .iter()
+                .find(|slot| slot.used && slot.node + 1 == last.next);
+            let sink = sink.expect("the last node is held");
+            assert_eq!(
+                (replayed.positive, replayed.negative),
+                (sink.positive, sink.negative)
+            );
+            assert_eq!(
+                (replayed.nodes, replayed.steps, replayed.peak),
+                (last.next, last.steps, peak)
+            );
+        }
+    }
+}
+
+fn check_cases(seed: u64, size: Size) {
+    for index in 0..CASES {
+        match draw(seed, index, size) {
+            Case::Press {
+                sheet,
+                rules,
+                room,
+                marks,
+            } => check_press(&sheet, &rules, room, marks),
+            Case::Replay {
+                sheet,
+                rules,
+                slots,
+            } => check_replay(&sheet, &rules, slots),
+        }
+    }
+}
+
+#[test]
+fn small_cases_hold_what_is_promised() {
+    check_cases(11, Size::Small);
+}
+
+#[test]
+fn large_cases_hold_what_is_promised() {
+    check_cases(12, Size::Any);
+}
+
+#[test]
+fn every_refusal_number_occurs() {
+    assert_eq!(gather(13, 3000, Size::Any).missing(), Vec::<String>::new());
+}
+
+#[test]
+fn small_cases_are_small() {
+    for index in 0..CASES {
+        let (Case::Press { sheet, .. } | Case::Replay { sheet, .. }) = draw(14, index, Size::Small);
+        assert!(sheet.len() < 21 * RECORD);
+    }
+}
+
+#[test]
+fn a_case_depends_only_on_seed_and_index() {
+    assert_eq!(draw(5, 40, Size::Any), draw(5, 40, Size::Any));
+    assert_ne!(draw(5, 40, Size::Any), draw(6, 40, Size::Any));
+}

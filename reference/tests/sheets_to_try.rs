@@ -1,0 +1,243 @@
+//! Every case under "Sheets to try", and the lengths around the limits.
+
+mod common;
+
+use common::*;
+use reference::press::Pressed;
+use reference::replay::Replayed;
+
+/// The bytes that document 01 prints for *pair*.
+const PAIR_OUT: [[u8; 8]; 15] = [
+    [1, 0, 0, 0, 0, 0, 0, 0],
+    [1, 0, 0, 0, 0, 0, 0, 0],
+    [0; 8],
+    [1, 0, 0, 0, 0, 0, 1, 0],
+    [0; 8],
+    [1, 0, 0, 0, 0, 0, 0, 0],
+    [2, 0, 0, 0, 1, 0, 0, 0],
+    [0; 8],
+    [0; 8],
+    [3, 0, 0, 0, 0, 0, 0, 0],
+    [0; 8],
+    [0; 8],
+    [3, 0, 1, 0, 0, 0, 0, 0],
+    [0; 8],
+    [0; 8],
+];
+
+#[test]
+fn lone() {
+    let done = press_ok(&sheet(&[given(0, "+0")]), &rules(&["+0"]));
+    assert_eq!(done.out, sheet(&[given(0, "+0")]));
+    assert_eq!(done.core, [0]);
+    let expected = Pressed {
+        positive: 1,
+        negative: 0,
+        records: 1,
+        nodes: 1,
+        steps: 0,
+        peak: 1,
+        marked: 1,
+    };
+    assert_eq!(done.pressed, expected);
+}
+
+#[test]
+fn pair_gives_the_printed_bytes() {
+    let (sheet, rules) = pair();
+    let done = press_ok(&sheet, &rules);
+    assert_eq!(done.out, PAIR_OUT.concat());
+    assert_eq!(done.core, [0, 1]);
+    let expected = Pressed {
+        positive: 0,
+        negative: 0,
+        records: 5,
+        nodes: 3,
+        steps: 1,
+        peak: 3,
+        marked: 2,
+    };
+    assert_eq!(done.pressed, expected);
+}
+
+#[test]
+fn irregular_loses_two_steps() {
+    let (input, rules) = irregular();
+    let done = press_ok(&input, &rules);
+    let expected = [
+        given(0, "+0 +1"),
+        given(2, "+0 -1"),
+        step(1, 0, 1, "+0"),
+        dropped(0),
+        dropped(1),
+        given(3, "-0"),
+        step(0, 2, 3, ""),
+        dropped(2),
+        dropped(3),
+    ];
+    assert_eq!(done.out, sheet(&expected));
+    assert_eq!(done.core, [0, 2, 3]);
+    let Pressed {
+        nodes, steps, peak, ..
+    } = done.pressed;
+    assert_eq!((nodes, steps, peak), (5, 2, 3));
+}
+
+#[test]
+fn twice_is_dropped_once() {
+    let input = [given(0, "+0 -0"), step(0, 0, 0, "+0 -0")];
+    let done = press_ok(&sheet(&input), &rules(&["+0 -0"]));
+    let [node, twice] = input;
+    assert_eq!(done.out, sheet(&[node, twice, dropped(0)]));
+    assert_eq!((done.pressed.records, done.pressed.peak), (3, 2));
+    assert_eq!((done.pressed.positive, done.pressed.negative), (1, 1));
+}
+
+#[test]
+fn idle_comes_out_as_pair() {
+    let table = rules(&["+0", "-0"]);
+    for unused in [given(0, "+0"), given(1, "-0")] {
+        let input = [given(0, "+0"), given(1, "-0"), unused, step(0, 0, 1, "")];
+        let done = press_ok(&sheet(&input), &table);
+        assert_eq!(done.out, PAIR_OUT.concat());
+        assert_eq!(done.core, [0, 1]);
+    }
+}
+
+#[test]
+fn idle_of_a_line_of_its_own_is_not_in_the_core() {
+    let table = rules(&["+0", "-0", "+5"]);
+    let input = [
+        given(0, "+0"),
+        given(1, "-0"),
+        given(2, "+5"),
+        step(0, 0, 1, ""),
+    ];
+    let done = press_ok(&sheet(&input), &table);
+    assert_eq!(done.out, PAIR_OUT.concat());
+    assert_eq!(done.core, [0, 1]);
+}
+
+#[test]
+fn pairs_output_replayed_with_three_slots() {
+    let (_, rules) = pair();
+    let (answer, trace) = replay_traced(&PAIR_OUT.concat(), &rules, 3);
+    let expected = Replayed {
+        positive: 0,
+        negative: 0,
+        nodes: 3,
+        steps: 1,
+        peak: 3,
+    };
+    assert_eq!(answer, Ok(expected));
+    let (plus, minus, sink) = (slot(0, "+0"), slot(1, "-0"), slot(2, ""));
+    let expected = [
+        (tally(1, 1, 1, 0), vec![plus, FREE, FREE]),
+        (tally(2, 2, 2, 0), vec![plus, minus, FREE]),
+        (tally(3, 3, 3, 1), vec![plus, minus, sink]),
+        (tally(3, 2, 3, 1), vec![FREE, minus, sink]),
+        (tally(3, 1, 3, 1), vec![FREE, FREE, sink]),
+    ];
+    assert_eq!(trace, expected);
+}
+
+#[test]
+fn pairs_output_replayed_with_too_few_slots() {
+    let (_, rules) = pair();
+    let (answer, trace) = replay_traced(&PAIR_OUT.concat(), &rules, 2);
+    assert_eq!(answer, Err((15, 2)));
+    let (plus, minus) = (slot(0, "+0"), slot(1, "-0"));
+    let expected = [
+        (tally(1, 1, 1, 0), vec![plus, FREE]),
+        (tally(2, 2, 2, 0), vec![plus, minus]),
+    ];
+    assert_eq!(trace, expected);
+    assert_eq!(replay_answer(&PAIR_OUT.concat(), &rules, 0), Err((15, 0)));
+}
+
+#[test]
+fn irregulars_output_reuses_slots() {
+    let (input, rules) = irregular();
+    let done = press_ok(&input, &rules);
+    let (answer, trace) = replay_traced(&done.out, &rules, 3);
+    assert_eq!(answer.map(|replayed| replayed.peak), Ok(3));
+    let rows: Vec<_> = trace.into_iter().map(|(_, row)| row).collect();
+    let (first, second) = (slot(0, "+0 +1"), slot(1, "+0 -1"));
+    let (third, fourth, sink) = (slot(2, "+0"), slot(3, "-0"), slot(4, ""));
+    let expected = [
+        [first, FREE, FREE],
+        [first, second, FREE],
+        [first, second, third],
+        [FREE, second, third],
+        [FREE, FREE, third],
+        [fourth, FREE, third],
+        [fourth, sink, third],
+        [fourth, sink, FREE],
+        [FREE, sink, FREE],
+    ];
+    assert_eq!(rows, expected);
+}
+
+#[test]
+fn early_drop() {
+    let (_, rules) = pair();
+    let records = [
+        given(0, "+0"),
+        given(1, "-0"),
+        dropped(0),
+        step(0, 0, 1, ""),
+    ];
+    let (answer, trace) = replay_traced(&sheet(&records), &rules, 2);
+    assert_eq!(answer, Err((10, 3)));
+    assert_eq!(trace[2], (tally(2, 1, 2, 0), vec![FREE, slot(1, "-0")]));
+}
+
+#[test]
+fn gone() {
+    let records = [given(0, "+0"), dropped(0)];
+    let (answer, trace) = replay_traced(&sheet(&records), &rules(&["+0"]), 1);
+    assert_eq!(answer, Err((16, 2)));
+    assert_eq!(trace[1], (tally(1, 0, 1, 0), vec![FREE]));
+}
+
+#[test]
+fn pivot() {
+    let records = [given(0, "+63"), given(1, "-63"), step(63, 0, 1, "")];
+    let table = rules(&["+63", "-63"]);
+    let mut bytes = sheet(&records);
+    assert_eq!(press_ok(&bytes, &table).pressed.records, 5);
+    assert!(replay_answer(&bytes, &table, 3).is_ok());
+    bytes[2 * 24 + 1] = 64;
+    assert_eq!(press_refused(&bytes, &table), (8, 2));
+    assert_eq!(replay_answer(&bytes, &table, 3), Err((8, 2)));
+}
+
+#[test]
+fn forward() {
+    let (_, table) = pair();
+    for (left, right) in [(2, 1), (0, 2), (2, 2), (0xFFFF, 1)] {
+        let records = [given(0, "+0"), given(1, "-0"), step(0, left, right, "")];
+        assert_eq!(press_refused(&sheet(&records), &table), (9, 2));
+        assert_eq!(replay_answer(&sheet(&records), &table, 3), Err((9, 2)));
+    }
+}
+
+#[test]
+fn room_for_three_records() {
+    let (sheet, rules) = pair();
+    let mut marks = [0; 2];
+    let accepted = reference::press::press(&sheet, &rules, &mut [0; 120], &mut marks);
+    assert!(accepted.is_ok());
+    assert_eq!(press_refused_with(&sheet, &rules, 119, 2), (5, 0));
+    assert_eq!(press_refused_with(&sheet, &rules, 120, 1), (5, 0));
+}
+
+#[test]
+fn numbers_of_records() {
+    let table = rules(&["+0"]);
+    let of = |count: usize| sheet(&vec![given(0, "+0"); count]);
+    assert_eq!(press_ok(&of(512), &table).pressed.records, 1);
+    assert_eq!(press_refused(&of(513), &table), (3, 0));
+    assert!(replay_answer(&of(1023), &table, 1023).is_ok());
+    assert_eq!(replay_answer(&of(1024), &table, 1024), Err((3, 0)));
+}

@@ -1,0 +1,215 @@
+//! "Slips that look right", each with a sheet that tells it from the rule.
+
+mod common;
+
+use common::*;
+use reference::passes::rebuild::Why;
+use reference::passes::recycle::Edge;
+use reference::press::{read_proof, run_passes};
+use reference::proof::Node;
+use reference::record::Record;
+
+#[test]
+fn the_kept_side_of_a_cut() {
+    let (sheet, rules) = irregular();
+    let done = press_ok(&sheet, &rules);
+    assert_eq!((done.pressed.positive, done.pressed.negative), (0, 0));
+    let passes = run_passes(read_proof(&sheet, &rules).unwrap());
+    assert_eq!(passes.visits[&2].cut, Some(Edge::Right));
+    assert_eq!(passes.visits[&2].s, clause("+0 +1 +2"));
+    assert_eq!(passes.rebuilt.stand_ins[&2], 0);
+}
+
+/// The mirror image of *irregular*: every pivot literal turned round.
+#[test]
+fn a_left_edge_cut() {
+    let records = [
+        given(0, "-0 -1"),
+        given(1, "+0 -2"),
+        step(0, 1, 0, "-1 -2"),
+        given(2, "-0 +1"),
+        step(1, 3, 2, "-0 -2"),
+        given(3, "+0"),
+        step(0, 5, 4, "-2"),
+        given(4, "+2"),
+        step(2, 7, 6, ""),
+    ];
+    let table = rules(&["-0 -1", "+0 -2", "-0 +1", "+0", "+2"]);
+    let done = press_ok(&sheet(&records), &table);
+    let expected = [
+        given(3, "+0"),
+        given(2, "-0 +1"),
+        given(0, "-0 -1"),
+        step(1, 1, 2, "-0"),
+        dropped(1),
+        dropped(2),
+        step(0, 0, 3, ""),
+        dropped(0),
+        dropped(3),
+    ];
+    assert_eq!(done.out, sheet(&expected));
+    assert_eq!(done.core, [0, 2, 3]);
+    assert_eq!(done.pressed.peak, 4);
+}
+
+/// Node 2 is used by two steps on different sides of pivot 0, so nothing above
+/// it may be cut on 0: its S is empty although both uses would hand over a 0.
+#[test]
+fn s_is_not_carried_into_a_node_used_twice() {
+    let records = [
+        given(0, "+0 +1"),
+        given(1, "-0 +1"),
+        step(0, 0, 1, "+1"),
+        given(2, "+0 -1"),
+        step(1, 2, 3, "+0"),
+        given(3, "-0 -1"),
+        step(1, 2, 5, "-0"),
+        step(0, 4, 6, ""),
+    ];
+    let table = rules(&["+0 +1", "-0 +1", "+0 -1", "-0 -1"]);
+    let input = sheet(&records);
+    let passes = run_passes(read_proof(&input, &table).unwrap());
+    assert!(passes.visits.values().all(|visit| visit.cut.is_none()));
+    assert!(passes.visits[&2].s.is_empty());
+    let done = press_ok(&input, &table);
+    assert_eq!((done.pressed.nodes, done.pressed.steps), (8, 4));
+    assert_eq!(done.core, [0, 1, 2, 3]);
+}
+
+#[test]
+fn no_step_is_rebuilt_without_its_pivot() {
+    let (sheet, rules) = irregular();
+    let passes = run_passes(read_proof(&sheet, &rules).unwrap());
+    assert_eq!(passes.rebuilt.why[&8], Why::LeftLacksPivot);
+    assert_eq!(passes.rebuilt.stand_ins[&8], 6);
+}
+
+/// "the right parent gets S", "the left parent gets S": a cut step hands its S
+/// on, so that the next step on the same pivot is cut as well.
+#[test]
+fn a_cut_step_hands_its_s_on() {
+    let both = || given(0, "+0 -0");
+    let table = rules(&["+0 -0"]);
+    let on = |left, right| step(0, left, right, "+0 -0");
+    let left = [both(), both(), on(0, 1), both(), on(2, 3), both(), on(4, 5)];
+    let right = [both(), both(), on(0, 1), both(), on(3, 2), both(), on(5, 4)];
+    let kept = [(left, Edge::Right, "+0", 0), (right, Edge::Left, "-0", 1)];
+    for (records, edge, s, stand_in) in kept {
+        let passes = run_passes(read_proof(&sheet(&records), &table).unwrap());
+        for number in [2, 4] {
+            assert_eq!(passes.visits[&number].cut, Some(edge));
+            assert_eq!(passes.visits[&number].s, clause(s));
+            assert_eq!(passes.rebuilt.stand_ins[&number], stand_in);
+        }
+        assert_eq!(passes.pressed.nodes.len(), 3);
+    }
+}
+
+/// "Cuts don't lower uses": node 2 is named twice by node 3, where one edge is
+/// cut, and still counts as used twice, so node 2 itself isn't cut on 0.
+#[test]
+fn cuts_do_not_lower_uses() {
+    let records = [
+        given(0, "+0 -0"),
+        given(1, "+0 -0 +1"),
+        step(0, 0, 1, "+0 -0 +1"),
+        step(0, 2, 2, "+0 -0 +1"),
+        step(0, 3, 0, "+0 -0 +1"),
+    ];
+    let table = rules(&["+0 -0", "+0 -0 +1"]);
+    let passes = run_passes(read_proof(&sheet(&records), &table).unwrap());
+    assert_eq!(passes.visits[&3].cut, Some(Edge::Right));
+    assert!(passes.visits[&2].s.is_empty());
+    assert_eq!(passes.visits[&2].cut, None);
+    assert_eq!(passes.rebuilt.stand_ins[&3], 2);
+}
+
+#[test]
+fn a_twice_named_parent_is_dropped_once() {
+    let records = [
+        given(0, "+0 -0"),
+        step(0, 0, 0, "+0 -0"),
+        step(0, 1, 1, "+0 -0"),
+    ];
+    let done = press_ok(&sheet(&records), &rules(&["+0 -0"]));
+    let [first, second, third] = records;
+    let expected = [first, second, dropped(0), third, dropped(1)];
+    assert_eq!(done.out, sheet(&expected));
+}
+
+#[test]
+fn marks_are_of_the_pressed_sheet() {
+    let (sheet, rules) = irregular();
+    assert_eq!(press_ok(&sheet, &rules).core, [0, 2, 3]);
+}
+
+/// The right premise of the sink has two uses and the left one has one, so the
+/// right one is placed first.
+#[test]
+fn more_uses_go_first() {
+    let records = [
+        given(0, "+0 +1"),
+        given(1, "-1 -0 -2"),
+        step(1, 0, 1, "+0 -0 -2"),
+        given(2, "+2"),
+        step(2, 3, 2, "+0 -0"),
+        step(0, 4, 2, "+0 -0 -2"),
+    ];
+    let table = rules(&["+0 +1", "-1 -0 -2", "+2"]);
+    let passes = run_passes(read_proof(&sheet(&records), &table).unwrap());
+    assert_eq!(passes.order, [0, 1, 2, 3, 4, 5]);
+    let mirrored = [
+        given(2, "+2"),
+        given(0, "+0 +1"),
+        given(1, "-1 -0 -2"),
+        step(1, 1, 2, "+0 -0 -2"),
+        step(2, 0, 3, "+0 -0"),
+        step(0, 4, 3, "+0 -0 -2"),
+    ];
+    let passes = run_passes(read_proof(&sheet(&mirrored), &table).unwrap());
+    assert_eq!(passes.order, [1, 2, 3, 0, 4, 5]);
+    let expected = [
+        given(0, "+0 +1"),
+        given(1, "-1 -0 -2"),
+        step(1, 0, 1, "+0 -0 -2"),
+        dropped(0),
+        dropped(1),
+        given(2, "+2"),
+        step(2, 3, 2, "+0 -0"),
+        dropped(3),
+        step(0, 4, 2, "+0 -0 -2"),
+        dropped(2),
+        dropped(4),
+    ];
+    assert_eq!(passes.records, expected);
+}
+
+/// "one step naming it twice counts two": nodes 1 and 2 have two children each,
+/// but node 2 has three uses and so goes before node 1, the left premise of 3.
+#[test]
+fn uses_count_places_and_not_children() {
+    let base = clause("+0 -0 +1 -1 +2 -2 +3 -3 +4 -4 +5 -5");
+    let node = |pivot, left, right| {
+        Record::Node(Node::Step {
+            pivot,
+            left,
+            right,
+            clause: base.clone(),
+        })
+    };
+    let first = Record::Node(Node::Given {
+        line: 0,
+        clause: base.clone(),
+    });
+    let records = [
+        first,
+        node(0, 0, 0),
+        node(1, 0, 0),
+        node(2, 1, 2),
+        node(3, 2, 2),
+        node(4, 1, 4),
+        node(5, 3, 5),
+    ];
+    let passes = run_passes(read_proof(&sheet(&records), &base.write()).unwrap());
+    assert_eq!(passes.order, [0, 2, 1, 3, 4, 5, 6]);
+}
