@@ -1,0 +1,18 @@
+-- The demands on the replay.
+use Rattle.replay.proofs.Accepts.{replay-accepts}
+use Rattle.replay.proofs.Sound as Sound
+use Rattle.replay.proofs.Unique as Unique
+use mathlib.Core.Path.{sym, _∙_}
+use Rattle.demands.specs.Demands.{ReplayAccepts, ReplaySound, ReplayUnique, StepUnique}
+
+pub replay-accepts-proper : ReplayAccepts
+replay-accepts-proper = replay-accepts
+
+pub replay-sound : ReplaySound
+replay-sound = Sound.replay-sound
+
+pub replay-unique : ReplayUnique
+replay-unique e sheet rules slots r₁ r₂ slots₁ slots₂ p q = (Unique.replay-unique _ r₁ r₂ (p .answer) (q .answer), p .row ∙ sym (q .row))
+
+pub step-unique : StepUnique
+step-unique e rules bytes k s r₁ r₂ s₁ s₂ p q = (Unique.step-unique _ r₁ r₂ (p .answer) (q .answer), p .after ∙ sym (q .after))

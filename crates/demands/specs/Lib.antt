@@ -1,0 +1,4 @@
+pub mod Cases
+pub mod Starred
+pub mod Telling
+pub mod Demands

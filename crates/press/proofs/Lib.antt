@@ -1,0 +1,12 @@
+pub mod Proper
+pub mod Nodes
+pub mod Literals
+pub mod Judged
+pub mod Trimmed
+pub mod Rebuilt
+pub mod Allowed
+pub mod Recycled
+pub mod Ordered
+pub mod Counted
+pub mod Laid
+pub mod Kept

@@ -1,0 +1,4 @@
+pub mod Slots
+pub mod Step
+pub mod Replay
+pub mod Said

@@ -1,0 +1,66 @@
+// The bytes of a sheet: three kinds of record, four kinds of number, rule lines, limits, the reasons of refusal, and the checks that
+// press and replay share.
+use clause::Clause;
+
+pub mod checks;
+pub mod limits;
+pub mod lines;
+pub mod read;
+pub mod write;
+
+// A node's number: given and resolution records, counted from 0.
+pub struct NodeNo(pub u16);
+
+// A record's number: its place in the sheet.
+pub struct RecordNo(pub usize);
+
+// A slot's position in the row.
+pub struct SlotNo(pub usize);
+
+// A line of the rule table.
+pub struct LineNo(pub u16);
+
+pub enum Record {
+    Given {
+        line: LineNo,
+        clause: Clause,
+    },
+    Step {
+        pivot: u8,
+        left: NodeNo,
+        right: NodeNo,
+        clause: Clause,
+    },
+    Drop(NodeNo),
+}
+
+// A record reads as one of three kinds, or it doesn't read.
+pub enum Reading {
+    Reads(Record),
+    Unread(Reason),
+}
+
+pub enum Reason {
+    Ragged,
+    Empty,
+    Long,
+    Table,
+    Room,
+    Kind,
+    NotZero,
+    Pivot,
+    NotEarlier,
+    Dropped,
+    PivotMissing,
+    NotResult,
+    NoLine,
+    LineDiffers,
+    Full,
+    NotHeld,
+}
+
+// What a check says.
+pub enum Verdict {
+    Fine,
+    Refused(Reason),
+}
