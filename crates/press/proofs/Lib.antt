@@ -10,3 +10,10 @@ pub mod Ordered
 pub mod Counted
 pub mod Laid
 pub mod Kept
+pub mod Playing
+pub mod Drops
+pub mod Peak
+pub mod Marks
+pub mod Unique
+pub mod Accepts
+pub mod Fitting
