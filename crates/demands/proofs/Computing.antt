@@ -8,16 +8,16 @@ use Rattle.sheet.specs.Records as SheetRecords
 use Rattle.sheet.specs.Fields as SheetFields
 use Rattle.sheet.specs.Checks as SheetChecks
 use Rattle.sheet.specs.Counts as SheetCounts
-use Rattle.replay.specs.Slots as ReplaySlots
-use Rattle.replay.specs.Step as ReplayStep
-use Rattle.replay.specs.Replay as ReplayReplay
-use Rattle.press.specs.Judge as PressJudge
-use Rattle.press.specs.Trim as PressTrim
-use Rattle.press.specs.Recycle as PressRecycle
-use Rattle.press.specs.Rebuild as PressRebuild
-use Rattle.press.specs.Order as PressOrder
-use Rattle.press.specs.Drops as PressDrops
-use Rattle.press.specs.Press as PressPress
+use Rattle.replaying.specs.Slots as ReplaySlots
+use Rattle.replaying.specs.Step as ReplayStep
+use Rattle.replaying.specs.Replay as ReplayReplay
+use Rattle.pressing.specs.Judge as PressJudge
+use Rattle.pressing.specs.Trim as PressTrim
+use Rattle.pressing.specs.Recycle as PressRecycle
+use Rattle.pressing.specs.Rebuild as PressRebuild
+use Rattle.pressing.specs.Order as PressOrder
+use Rattle.pressing.specs.Drops as PressDrops
+use Rattle.pressing.specs.Press as PressPress
 use Rattle.demands.specs.Cases as DemandsCases
 
 unfoldable pub computing : Unit {0}

@@ -13,15 +13,15 @@ use Rattle.sheet.specs.Editions.{Edition}
 use Rattle.sheet.specs.Records.{Node, given, step, Record, node, drop, clause, nodeAt}
 use Rattle.sheet.specs.Counts.{nodesOf, peakFrom}
 use Rattle.sheet.specs.Proper.{recordIn, clauseIn, Held, ProperAfter}
-use Rattle.replay.proofs.Runs.{nodes-node, nodes-drop, count-node, held-still, held-before, last-dropped, DropsEarlier, drops-more, held-new, Follows, follows-each, each-follows}
-use Rattle.press.specs.Trim.{usesIn}
-use Rattle.press.specs.Drops.{withDrops}
-use Rattle.press.proofs.Proper.{ProperNode, AllProper, AllUsed}
-use Rattle.press.proofs.Nodes.{Falling, proper-falling}
-use Rattle.press.proofs.Trimmed.{uses-left, uses-right, used-parent}
-use Rattle.press.proofs.Playing.{also, also-here, also-other, but, but-here, but-other, but-fewer, count, count-new, count-but, Plays}
-use Rattle.press.proofs.Drops.{nodes-withDrops}
-use Rattle.press.proofs.Peak.{nothing, withDrops-plays, least-peak}
+use Rattle.replaying.proofs.Runs.{nodes-node, nodes-drop, count-node, held-still, held-before, last-dropped, DropsEarlier, drops-more, held-new, Follows, follows-each, each-follows}
+use Rattle.pressing.specs.Trim.{usesIn}
+use Rattle.pressing.specs.Drops.{withDrops}
+use Rattle.pressing.proofs.Proper.{ProperNode, AllProper, AllUsed}
+use Rattle.pressing.proofs.Nodes.{Falling, proper-falling}
+use Rattle.pressing.proofs.Trimmed.{uses-left, uses-right, used-parent}
+use Rattle.pressing.proofs.Playing.{also, also-here, also-other, but, but-here, but-other, but-fewer, count, count-new, count-but, Plays}
+use Rattle.pressing.proofs.Drops.{nodes-withDrops}
+use Rattle.pressing.proofs.Peak.{nothing, withDrops-plays, least-peak}
 
 -- after a run of k nodes, H are held
 record Holds (done : List Record) (k : ℕ) (H : ℕ → Bool) : Type 0 where

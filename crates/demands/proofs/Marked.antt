@@ -13,14 +13,14 @@ use Rattle.sheet.specs.Records.{Node, given, Record, node, drop, clause, nodeAt
 use Rattle.sheet.specs.Fields.{ruleLines}
 use Rattle.sheet.specs.Counts.{nodesOf}
 use Rattle.sheet.specs.Proper.{recordIn, conclusionOf, ReadsAs}
-use Rattle.replay.proofs.Accepts.{reads-once}
-use Rattle.replay.proofs.Sound.{proper-true}
-use Rattle.press.specs.Trim.{sink}
-use Rattle.press.specs.Drops.{withDrops, total}
-use Rattle.press.specs.Press.{pressed, conclusion}
-use Rattle.press.proofs.Proper.{ProperNode}
-use Rattle.press.proofs.Drops.{nodes-withDrops}
-use Rattle.press.proofs.Marks.{LineOf, line-marked, marked-line}
+use Rattle.replaying.proofs.Accepts.{reads-once}
+use Rattle.replaying.proofs.Sound.{proper-true}
+use Rattle.pressing.specs.Trim.{sink}
+use Rattle.pressing.specs.Drops.{withDrops, total}
+use Rattle.pressing.specs.Press.{pressed, conclusion}
+use Rattle.pressing.proofs.Proper.{ProperNode}
+use Rattle.pressing.proofs.Drops.{nodes-withDrops}
+use Rattle.pressing.proofs.Marks.{LineOf, line-marked, marked-line}
 use Rattle.demands.specs.Demands.{written, markedIn, Sound, Empty, Marks}
 use Rattle.demands.proofs.Written.{Wrote}
 

@@ -11,10 +11,10 @@ use Rattle.sheet.specs.Editions.{Edition}
 use Rattle.sheet.specs.Records.{Record, node}
 use Rattle.sheet.specs.Counts.{nodesOf, stepsOf}
 use Rattle.sheet.specs.Proper.{ReadsAs}
-use Rattle.replay.proofs.Accepts.{reads-once}
-use Rattle.press.specs.Trim.{sink}
-use Rattle.press.specs.Press.{conclusion}
-use Rattle.press.proofs.Accepts as Accepts
+use Rattle.replaying.proofs.Accepts.{reads-once}
+use Rattle.pressing.specs.Trim.{sink}
+use Rattle.pressing.specs.Press.{conclusion}
+use Rattle.pressing.proofs.Accepts as Accepts
 use Rattle.press.proofs.Unique as Unique
 use Rattle.demands.specs.Demands.{PressUnique, PressAccepts, PressDemands, Smaller, Shorter}
 use Rattle.demands.proofs.Written.{Wrote, accepted-wrote}

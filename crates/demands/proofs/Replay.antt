@@ -1,6 +1,6 @@
 -- The demands on the replay.
-use Rattle.replay.proofs.Accepts.{replay-accepts}
-use Rattle.replay.proofs.Sound as Sound
+use Rattle.replaying.proofs.Accepts.{replay-accepts}
+use Rattle.replaying.proofs.Sound as Sound
 use Rattle.replay.proofs.Unique as Unique
 use mathlib.Core.Path.{sym, _∙_}
 use Rattle.demands.specs.Demands.{ReplayAccepts, ReplaySound, ReplayUnique, StepUnique}

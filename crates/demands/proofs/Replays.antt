@@ -8,11 +8,11 @@ use Rattle.clause.specs.Clauses.{Literals}
 use Rattle.sheet.specs.Editions.{Edition}
 use Rattle.sheet.specs.Records.{Node, step, nodeAt}
 use Rattle.sheet.specs.Counts.{nodesOf, stepsOf}
-use Rattle.replay.proofs.Accepts.{proper-accepted, proper-refused, accepted-says}
-use Rattle.press.specs.Drops.{withDrops}
-use Rattle.press.specs.Press.{pressed}
-use Rattle.press.proofs.Nodes.{Falling, proper-falling}
-use Rattle.press.proofs.Drops.{nodes-withDrops, length-withDrops}
+use Rattle.replaying.proofs.Accepts.{proper-accepted, proper-refused, accepted-says}
+use Rattle.pressing.specs.Drops.{withDrops}
+use Rattle.pressing.specs.Press.{pressed}
+use Rattle.pressing.proofs.Nodes.{Falling, proper-falling}
+use Rattle.pressing.proofs.Drops.{nodes-withDrops, length-withDrops}
 use Rattle.demands.specs.Demands.{written, Replays, Tight, Least, Sized, Rising}
 use Rattle.demands.proofs.Follows.{withDrops-least}
 use Rattle.demands.proofs.Written.{Wrote}

@@ -16,14 +16,14 @@ use Rattle.sheet.specs.Fitting.{Fitting}
 use Rattle.sheet.specs.Proper.{recordIn, ReadsAs, Proper}
 use Rattle.sheet.proofs.Fields.{length-sheetBytes, recordAt-sheet, known-all, reading-written}
 use Rattle.sheet.proofs.Fine.{Lines}
-use Rattle.press.specs.Drops.{withDrops, markLines}
-use Rattle.press.specs.Press.{Outcome, pressed, emit, emitted, press}
-use Rattle.press.proofs.Proper.{AllProper, AllUsed}
-use Rattle.press.proofs.Nodes.{proper-falling}
-use Rattle.press.proofs.Drops.{nodes-withDrops, length-withDrops, last-not-dropped}
-use Rattle.press.proofs.Marks.{length-marks}
-use Rattle.press.proofs.Fitting.{withDrops-fitting}
-use Rattle.press.proofs.Accepts.{Says, accepted-says}
+use Rattle.pressing.specs.Drops.{withDrops, markLines}
+use Rattle.pressing.specs.Press.{Outcome, pressed, emit, emitted, press}
+use Rattle.pressing.proofs.Proper.{AllProper, AllUsed}
+use Rattle.pressing.proofs.Nodes.{proper-falling}
+use Rattle.pressing.proofs.Drops.{nodes-withDrops, length-withDrops, last-not-dropped}
+use Rattle.pressing.proofs.Marks.{length-marks}
+use Rattle.pressing.proofs.Fitting.{withDrops-fitting}
+use Rattle.pressing.proofs.Accepts.{Says, accepted-says}
 use Rattle.demands.specs.Demands.{Bytes, Accepted, written, markedIn}
 use Rattle.demands.proofs.Follows.{withDrops-proper}
 

@@ -8,9 +8,9 @@ use Rattle.base.specs.Bytes.{flat}
 use Rattle.clause.specs.Clauses.{Literals, literals}
 use Rattle.sheet.specs.Editions.{narrow}
 use Rattle.sheet.specs.Fields.{clauseBytes}
-use Rattle.replay.specs.Slots.{Slot, slot, empty}
-use Rattle.replay.specs.Replay as Replay
-use Rattle.press.specs.Press as Press
+use Rattle.replaying.specs.Slots.{Slot, slot, empty}
+use Rattle.replaying.specs.Replay as Replay
+use Rattle.pressing.specs.Press as Press
 
 -- a refusal's number and record; a result's sets and counts, in document 01's order
 unfoldable pub pressSays : Press.Answer → List ℕ

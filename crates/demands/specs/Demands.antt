@@ -14,14 +14,14 @@ use Rattle.sheet.specs.Counts.{nodesOf, stepsOf, peakFrom, firstOver}
 use Rattle.sheet.specs.Proper.{recordIn, conclusionOf, ReadsAs, Proper}
 use Rattle.replay.specs.declared.ReplayAnswer.{ReplayAnswer}
 use Rattle.replay.specs.declared.StepAnswer.{StepAnswer}
-use Rattle.replay.specs.Slots.{Slot}
-use Rattle.replay.specs.Step.{State, oneStep}
-use Rattle.replay.specs.Replay as Replay
+use Rattle.replaying.specs.Slots.{Slot}
+use Rattle.replaying.specs.Step.{State, oneStep}
+use Rattle.replaying.specs.Replay as Replay
 use Rattle.replay.specs.Said as ReplaySaid
 use Rattle.press.specs.declared.PressAnswer.{PressAnswer}
-use Rattle.press.specs.Press as Press
+use Rattle.pressing.specs.Press as Press
 use Rattle.press.specs.Said as PressSaid
-use Rattle.press.specs.Drops as Drops
+use Rattle.pressing.specs.Drops as Drops
 
 -- every element is a byte, as those of a lent slice are
 abbrev pub Bytes : List ℕ → Type 0

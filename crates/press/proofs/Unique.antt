@@ -5,7 +5,7 @@ use Rattle.sheet.specs.Reasons.{numberOf}
 use Rattle.sheet.proofs.Reasons.{numberOf-injective}
 use Rattle.press.specs.declared.PressAnswer.{PressAnswer}
 use Rattle.press.specs.declared.PressAnswer.the-variants.{Accepted, Refused}
-use Rattle.press.specs.Press.{Answer}
+use Rattle.pressing.specs.Press.{Answer}
 use Rattle.press.specs.Said.{said}
 
 said-injective : (r₁ r₂ : PressAnswer) → said r₁ ≡ said r₂ → r₁ ≡ r₂

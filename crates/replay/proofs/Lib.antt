@@ -1,7 +1,1 @@
-pub mod Slots
-pub mod Steps
-pub mod Runs
-pub mod Mirrors
-pub mod Accepts
-pub mod Sound
 pub mod Unique

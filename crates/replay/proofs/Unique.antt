@@ -7,8 +7,8 @@ use Rattle.replay.specs.declared.ReplayAnswer.{ReplayAnswer}
 use Rattle.replay.specs.declared.ReplayAnswer.the-variants as A
 use Rattle.replay.specs.declared.StepAnswer.{StepAnswer}
 use Rattle.replay.specs.declared.StepAnswer.the-variants as S
-use Rattle.replay.specs.Step.{Step}
-use Rattle.replay.specs.Replay.{Answer}
+use Rattle.replaying.specs.Step.{Step}
+use Rattle.replaying.specs.Replay.{Answer}
 use Rattle.replay.specs.Said.{said, saidOfStep}
 
 pub said-injective : (r₁ r₂ : ReplayAnswer) → said r₁ ≡ said r₂ → r₁ ≡ r₂

@@ -9,9 +9,9 @@ use Rattle.replay.specs.declared.ReplayAnswer.{ReplayAnswer}
 use Rattle.replay.specs.declared.ReplayAnswer.the-variants as A
 use Rattle.replay.specs.declared.StepAnswer.{StepAnswer}
 use Rattle.replay.specs.declared.StepAnswer.the-variants as S
-use Rattle.replay.specs.Step.{Tally, tally, Names, names, Seen, Step, taken, unfit}
-use Rattle.replay.specs.Step.{refused as stepRefused}
-use Rattle.replay.specs.Replay.{Answer, refused, accepted}
+use Rattle.replaying.specs.Step.{Tally, tally, Names, names, Seen, Step, taken, unfit}
+use Rattle.replaying.specs.Step.{refused as stepRefused}
+use Rattle.replaying.specs.Replay.{Answer, refused, accepted}
 
 abbrev pub tallyOf : CodeTally → Tally
 tallyOf t = tally (t .next) (t .held) (t .peak) (t .steps)

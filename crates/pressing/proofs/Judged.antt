@@ -1,0 +1,208 @@
+-- What judging lets through is proper, and what is proper it lets through.
+use Prim.Native.Nat.{ℕ, zero, suc, _+_, _/_, _<_}
+use mathlib.Core.Bool.{Bool, true, false, _&&_, cond, and-eq-true-iff}
+use mathlib.Core.Path.{_≡_, refl, sym, ap, _∙_}
+use mathlib.Core.List.{List, [], _∷_, _++_}
+use native.Mathlib.Omega.{arith}
+use native.Mathlib.Decide.{ℕ-discrete}
+use lib.Dec.{eqb, ltb}
+use lib.ListN.{length, take}
+use lib.Seq.{length-take-le, take-suc, take-length, getD-take}
+use borrow.Author.Tests.{ltb-true, lt-ltb}
+use Rattle.clause.specs.Clauses.{plus, minus, holds, alike, resolvent}
+use Rattle.clause.proofs.Clauses.{alike-same, alike-self}
+use Rattle.sheet.specs.declared.Reason.{Reason}
+use Rattle.sheet.specs.declared.Reason.the-variants.{Kind, Pivot, PivotMissing, NotResult, NoLine, LineDiffers}
+use Rattle.sheet.specs.declared.Verdict.{Verdict}
+use Rattle.sheet.specs.declared.Verdict.the-variants.{Fine, Refused}
+use Rattle.sheet.specs.Editions.{Edition, variables, recordBytes}
+use Rattle.sheet.specs.Records.{Node, given, step, node, drop, Reading, reads, unread, clause, nodeAt}
+use Rattle.sheet.specs.Fields.{Fields, fieldsOf, whenZero, readGiven, readStep, readDrop, readFields, reading, recordAt, ruleLines, ruleLine}
+use Rattle.sheet.specs.Checks.{checkEarlier, checkStep, checkGiven}
+use Rattle.pressing.specs.Judge.{checkNode, Turn, goes, stops, byVerdict, byReading, turn, proper, bad, judgeFrom, judge}
+use Rattle.pressing.proofs.Proper.{ProperNode, AllProper}
+use Rattle.sheet.proofs.Reasons.{unless-fine, fine-unless, andThen-fine, fine-andThen}
+use Rattle.pressing.proofs.Nodes.{length-more, nodeAt-before, nodeAt-end, all-proper-more}
+
+-- ---- a step that reads has a pivot that is a variable
+
+abbrev pub PivotBelow : Edition → Node → Type 0
+PivotBelow e (given line c) = Unit {0}
+PivotBelow e (step p l r c) = p < variables e
+
+abbrev Pivoted : Edition → Reading → Type 0
+Pivoted e (reads (node m)) = PivotBelow e m
+Pivoted e (reads (drop n)) = Unit {0}
+Pivoted e (unread why) = Unit {0}
+
+when-pivoted : (e : Edition) (b : Bool) (r : Reading) → Pivoted e r → Pivoted e (whenZero b r)
+unfolding whenZero
+when-pivoted e true r h = h
+when-pivoted e false r h = tt
+
+step-pivoted : (e : Edition) (f : Fields) → Pivoted e (readStep e f)
+unfolding readStep
+step-pivoted e f = when-pivoted e (eqb (f .line) 0) _ (below (ltb (f .pivot) (variables e)) refl)
+  where
+    below : (b : Bool) → ltb (f .pivot) (variables e) ≡ b
+        → Pivoted e (cond b (reads (node (step (f .pivot) (f .left) (f .right) (f .clause)))) (unread Pivot))
+    below true q = ltb-true (f .pivot) (variables e) q
+    below false q = tt
+
+fields-pivoted : (e : Edition) (drops : Bool) (f : Fields) → Pivoted e (readFields e drops f)
+unfolding readFields readGiven readDrop
+fields-pivoted e drops f = kinds (eqb (f .kind) 1) (eqb (f .kind) 2) (eqb (f .kind) 3 && drops)
+  where
+    kinds : (a b c : Bool) → Pivoted e (cond a (readGiven f) (cond b (readStep e f) (cond c (readDrop f) (unread Kind))))
+    kinds true b c = when-pivoted e _ _ tt
+    kinds false true c = step-pivoted e f
+    kinds false false true = when-pivoted e _ _ tt
+    kinds false false false = tt
+
+pub reads-pivot : (e : Edition) (drops : Bool) (b : List ℕ) (m : Node) → reading e drops b ≡ reads (node m) → PivotBelow e m
+unfolding reading
+reads-pivot e drops b m q = rw q at (fields-pivoted e drops (fieldsOf e b))
+
+-- ---- the checks of a node
+
+module _ (e : Edition) (rules : List ℕ) (s : List Node) where
+  earlier-fine : (n : ℕ) → checkEarlier (length s) n ≡ Fine → n < length s
+  unfolding checkEarlier
+  earlier-fine n q = ltb-true n (length s) (unless-fine _ _ _ q .0)
+
+  fine-earlier : (n : ℕ) → n < length s → checkEarlier (length s) n ≡ Fine
+  unfolding checkEarlier
+  fine-earlier n h = fine-unless _ _ _ (lt-ltb n (length s) h) refl
+
+  check-fine : (m : Node) → PivotBelow e m → checkNode e rules s m ≡ Fine → ProperNode e rules s (length s) m
+  unfolding checkNode checkGiven checkStep
+  check-fine (given line c) h q =
+      let y = unless-fine (ltb line (ruleLines e rules)) NoLine _ q in
+      let z = unless-fine (alike c (ruleLine e rules line)) LineDiffers Fine (y .1) in
+      (ltb-true line (ruleLines e rules) (y .0), alike-same c (ruleLine e rules line) (z .0))
+  check-fine (step p l r c) h q =
+      let a = clause (nodeAt s l) in
+      let b = clause (nodeAt s r) in
+      let x = andThen-fine _ _ q in
+      let y = andThen-fine _ _ (x .1) in
+      let z = unless-fine (holds (plus p) a && holds (minus p) b) PivotMissing _ (y .1) in
+      let w = unless-fine (alike c (resolvent p a b)) NotResult Fine (z .1) in
+      let u = and-eq-true-iff (holds (plus p) a) (holds (minus p) b) .0 (z .0) in
+      (h, earlier-fine l (x .0), earlier-fine r (y .0), u .0, u .1, alike-same c (resolvent p a b) (w .0))
+
+  fine-check : (m : Node) → ProperNode e rules s (length s) m → checkNode e rules s m ≡ Fine
+  unfolding checkNode checkGiven checkStep
+  fine-check (given line c) d =
+      fine-unless _ _ _ (lt-ltb line (ruleLines e rules) (d .0)) (fine-unless _ _ _ (rw (d .1) (alike-self (ruleLine e rules line))) refl)
+  fine-check (step p l r c) d =
+      fine-andThen _ _ (fine-earlier l (d .1)) (
+      fine-andThen _ _ (fine-earlier r (d .2)) (
+      fine-unless _ _ _ (rw (d .3, d .4)) (
+      fine-unless _ _ _ (rw (d .5) (alike-self _)) refl)))
+
+-- ---- a turn goes on with a node exactly when its record reads as that node and the node is proper
+
+module _ (e : Edition) (rules : List ℕ) (s : List Node) where
+  verdict-goes : (m n : Node) (v : Verdict) → byVerdict m v ≡ goes n → (m ≡ n) × (v ≡ Fine)
+  unfolding byVerdict
+  verdict-goes m n Fine q = (cc, refl)
+  verdict-goes m n (Refused why) q = (cc, cc)
+
+  reading-goes : (b : List ℕ) (n : Node) (x : Reading) → reading e false b ≡ x → byReading e rules s x ≡ goes n
+      → (reading e false b ≡ reads (node n)) × ProperNode e rules s (length s) n
+  unfolding byReading
+  reading-goes b n (reads (node m)) r q =
+      let y = verdict-goes m n (checkNode e rules s m) q in
+      let r′ : reading e false b ≡ reads (node n) = cc in
+      (r′, check-fine e rules s n (reads-pivot e false b n r′) (rw (y .0) at (y .1)))
+  reading-goes b n (reads (drop m)) r q = let z : _≡_ {A = ℕ} 0 1 = cc in absurd (omega arith)
+  reading-goes b n (unread why) r q = let z : _≡_ {A = ℕ} 0 1 = cc in absurd (omega arith)
+
+  pub turn-goes : (b : List ℕ) (n : Node) → turn e rules b s ≡ goes n
+      → (reading e false b ≡ reads (node n)) × ProperNode e rules s (length s) n
+  unfolding turn
+  turn-goes b n q = reading-goes b n (reading e false b) refl q
+
+  pub goes-turn : (b : List ℕ) (n : Node) → reading e false b ≡ reads (node n) → ProperNode e rules s (length s) n
+      → turn e rules b s ≡ goes n
+  unfolding turn byReading byVerdict
+  goes-turn b n q d = rw (q, fine-check e rules s n d)
+
+-- ---- all records
+
+-- the records of a sheet read as the nodes s
+abbrev pub AllRead : Edition → List ℕ → List Node → Type 0
+AllRead e sheet s = (k : ℕ) → k < length s → reading e false (recordAt e sheet k) ≡ reads (node (nodeAt s k))
+
+module _ (e : Edition) (rules sheet : List ℕ) where
+  abbrev here : List Node → Turn
+  here s = turn e rules (recordAt e sheet (length s)) s
+
+  pub judge-more : (m : ℕ) (s : List Node) (n : Node) → here s ≡ goes n
+      → judgeFrom e rules sheet (suc m) s ≡ judgeFrom e rules sheet m (s ++ (n ∷ []))
+  unfolding judgeFrom
+  judge-more m s n q = rw (q, judgeFrom)
+
+  pub judge-stops : (m : ℕ) (s : List Node) (why : Reason) → here s ≡ stops why → judgeFrom e rules sheet (suc m) s ≡ bad why (length s)
+  unfolding judgeFrom
+  judge-stops m s why q = rw (q, judgeFrom)
+
+  read-more : (s : List Node) (n : Node) → AllRead e sheet s → reading e false (recordAt e sheet (length s)) ≡ reads (node n)
+      → AllRead e sheet (s ++ (n ∷ []))
+  read-more s n f q k h = elim (ℕ-discrete k (length s)) [
+    | yes y ↦ rw (y, nodeAt-end s n) q
+    | no y ↦ let i : k < length s = omega (arith, length-more s n) in rw (nodeAt-before s n k i) (f k i)
+  ]
+
+  abbrev Sound : ℕ → List Node → Type 0
+  Sound m s = AllProper e rules s × (length s ≡ m) × AllRead e sheet s
+
+  sound-more : (m : ℕ) (s : List Node) (n : Node) → here s ≡ goes n → Sound m s → Sound (suc m) (s ++ (n ∷ []))
+  sound-more m s n q f =
+      let y = turn-goes e rules s (recordAt e sheet (length s)) n q in
+      (all-proper-more e rules s n (f .0) (y .1), length-more s n ∙ ap suc (f .1), read-more s n (f .2) (y .0))
+
+  judged-from : (m k : ℕ) (s t : List Node) → Sound k s → judgeFrom e rules sheet m s ≡ proper t → Sound (k + m) t
+  unfolding judgeFrom
+  judged-from zero k s t f q = let z : s ≡ t = cc in let y : k + 0 ≡ k = omega arith in rw (y, ← z) f
+  judged-from (suc m) k s t f q = go (here s) refl (λ n r.
+      let z : k + suc m ≡ suc k + m = omega arith in
+      rw z (judged-from m (suc k) (s ++ (n ∷ [])) t (sound-more k s n r f) (sym (judge-more m s n r) ∙ q)))
+    where
+      go : (x : Turn) → here s ≡ x → ((n : Node) → here s ≡ goes n → Sound (k + suc m) t) → Sound (k + suc m) t
+      go (goes n) r f = f n r
+      go (stops why) r f = let y = judge-stops m s why r in let z : _≡_ {A = ℕ} 0 1 = cc in absurd (omega arith)
+
+  pub judged-proper : (s : List Node) → judge e rules sheet ≡ proper s
+      → AllProper e rules s × (length s ≡ length sheet / recordBytes e) × AllRead e sheet s
+  unfolding judge
+  judged-proper s q =
+      let m = length sheet / recordBytes e in
+      let z : 0 + m ≡ m = omega arith in
+      rw z at (judged-from m 0 [] s ((λ n h. absurd (omega arith)), refl, (λ k h. absurd (omega arith))) q)
+
+-- ---- and back
+
+proper-take : (e : Edition) (rules : List ℕ) (s : List Node) (n : ℕ) (m : Node) → ProperNode e rules s n m
+    → ProperNode e rules (take n s) n m
+unfolding nodeAt
+proper-take e rules s n (given line c) d = d
+proper-take e rules s n (step p l r c) d = rw (getD-take n s l _ (d .1), getD-take n s r _ (d .2)) d
+
+module _ (e : Edition) (rules sheet : List ℕ) (s : List Node) (f : AllProper e rules s) (g : AllRead e sheet s) where
+  goes-here : (k : ℕ) → k < length s → here e rules sheet (take k s) ≡ goes (nodeAt s k)
+  goes-here k h =
+      let z : length (take k s) ≡ k = length-take-le k s (omega arith) in
+      goes-turn e rules (take k s) _ (nodeAt s k) (rw z (g k h)) (rw z (proper-take e rules s k (nodeAt s k) (f k h)))
+
+  judge-rest : (m k : ℕ) → k + m ≡ length s → judgeFrom e rules sheet m (take k s) ≡ proper s
+  unfolding judgeFrom nodeAt
+  judge-rest zero k q = let z : k ≡ length s = omega arith in ap proper (rw z (take-length s))
+  judge-rest (suc m) k q =
+      judge-more e rules sheet m (take k s) (nodeAt s k) (goes-here k (omega arith))
+      ∙ ap (judgeFrom e rules sheet m) (sym (take-suc s k _ (omega arith)))
+      ∙ judge-rest m (suc k) (omega arith)
+
+  pub judge-of : length sheet / recordBytes e ≡ length s → judge e rules sheet ≡ proper s
+  unfolding judge
+  judge-of q = judge-rest (length sheet / recordBytes e) 0 (omega arith)

@@ -1,0 +1,85 @@
+-- Laws of lists of nodes: one more node, and parents that stand earlier.
+use Prim.Native.Nat.{ℕ, zero, suc, _+_, _≤_, _<_}
+use mathlib.Core.Path.{_≡_}
+use mathlib.Core.List.{List, [], _∷_, _++_}
+use native.Mathlib.Omega.{arith}
+use native.Mathlib.Decide.{ℕ-discrete, decLt}
+use lib.ListN.{length, length-append, List·getD-append, List·getD-eq-default}
+use lib.Seq.{getD-append-seam}
+use Rattle.sheet.specs.Editions.{Edition}
+use Rattle.sheet.specs.Records.{Node, given, step, nodeAt}
+use Rattle.sheet.specs.Counts.{stepOf, stepsOf}
+use Rattle.pressing.specs.Trim.{usesIn, uses}
+use Rattle.pressing.proofs.Proper.{ProperNode, AllProper}
+
+-- ---- one more node
+
+pub length-more : (s : List Node) (m : Node) → length (s ++ (m ∷ [])) ≡ suc (length s)
+length-more s m = omega (arith, length-append s (m ∷ []))
+
+pub nodeAt-before : (s : List Node) (m : Node) (n : ℕ) → n < length s → nodeAt (s ++ (m ∷ [])) n ≡ nodeAt s n
+unfolding nodeAt
+nodeAt-before s m n h = List·getD-append s (m ∷ []) _ n h
+
+pub nodeAt-end : (s : List Node) (m : Node) → nodeAt (s ++ (m ∷ [])) (length s) ≡ m
+unfolding nodeAt
+nodeAt-end s m = getD-append-seam s m [] _
+
+pub uses-more : (s : List Node) (m : Node) (n : ℕ) → uses (s ++ (m ∷ [])) n ≡ uses s n + usesIn n m
+unfolding uses
+uses-more [] m n = omega arith
+uses-more (k ∷ s) m n = omega (arith, uses-more s m n)
+
+pub steps-more : (s : List Node) (m : Node) → stepsOf (s ++ (m ∷ [])) ≡ stepsOf s + stepOf m
+unfolding stepsOf
+steps-more [] m = omega arith
+steps-more (k ∷ s) m = omega (arith, steps-more s m)
+
+-- the checks of a node look only at what stands before it
+proper-more : (e : Edition) (rules : List ℕ) (s : List Node) (m : Node) (n : ℕ) → n ≤ length s → (k : Node)
+    → ProperNode e rules s n k → ProperNode e rules (s ++ (m ∷ [])) n k
+proper-more e rules s m n h (given line c) d = d
+proper-more e rules s m n h (step p l r c) d =
+    rw (nodeAt-before s m l (omega (arith, d .1)), nodeAt-before s m r (omega (arith, d .2))) d
+
+pub all-proper-more : (e : Edition) (rules : List ℕ) (s : List Node) (m : Node)
+    → AllProper e rules s → ProperNode e rules s (length s) m → AllProper e rules (s ++ (m ∷ []))
+all-proper-more e rules s m f d n h = elim (ℕ-discrete n (length s)) [
+  | yes q ↦ rw (q, nodeAt-end s m) (proper-more e rules s m (length s) (omega arith) m d)
+  | no q ↦
+      let k : n < length s = omega (arith, length-more s m) in
+      rw (nodeAt-before s m n k) (proper-more e rules s m n (omega arith) (nodeAt s n) (f n k))
+]
+
+-- ---- parents stand earlier
+
+-- both parents of a step are of a kind
+abbrev pub Parents : (ℕ → Type 0) → Node → Type 0
+Parents Q (given line c) = Unit {0}
+Parents Q (step p l r c) = Q l × Q r
+
+abbrev pub Falls : ℕ → Node → Type 0
+Falls n m = Parents (λ k. k < n) m
+
+abbrev pub Falling : List Node → Type 0
+Falling s = (n : ℕ) → Falls n (nodeAt s n)
+
+proper-falls : (e : Edition) (rules : List ℕ) (s : List Node) (n : ℕ) (m : Node) → ProperNode e rules s n m → Falls n m
+proper-falls e rules s n (given line c) d = tt
+proper-falls e rules s n (step p l r c) d = (d .1, d .2)
+
+-- past the end there are no steps
+falling-within : (s : List Node) → ((n : ℕ) → n < length s → Falls n (nodeAt s n)) → Falling s
+unfolding nodeAt
+falling-within s f n = elim (decLt n (length s)) [ yes h ↦ f n h | no h ↦ rw (List·getD-eq-default s _ {n = n} (omega arith)) tt ]
+
+pub proper-falling : (e : Edition) (rules : List ℕ) (s : List Node) → AllProper e rules s → Falling s
+proper-falling e rules s f = falling-within s (λ n h. proper-falls e rules s n (nodeAt s n) (f n h))
+
+-- what follows for each number from all smaller ones
+pub by-rising : (P : ℕ → Type 0) → ((n : ℕ) → ((m : ℕ) → m < n → P m) → P n) → (n : ℕ) → P n
+by-rising P f n = f n (upto n)
+  where
+    upto : (n m : ℕ) → m < n → P m
+    upto zero m h = absurd (omega arith)
+    upto (suc n) m h = f m (λ k l. upto n k (omega arith))

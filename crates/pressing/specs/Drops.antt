@@ -1,0 +1,31 @@
+-- 6. Drops: "Right after the record that uses a node last comes its drop; two drops go by rising number in the pressed sheet. The sink is
+-- never dropped." And the core, "the set of rule lines of the emitted given records".
+use Prim.Native.Nat.{ℕ, _+_, min, max}
+use mathlib.Core.Bool.{cond}
+use mathlib.Core.List.{List, [], _∷_, _++_}
+use lib.Dec.{eqb}
+use lib.ListN.{set}
+use Rattle.sheet.specs.Records.{Node, given, step, Record, node, drop}
+use Rattle.pressing.specs.Trim.{uses}
+
+-- the drop of n, unless a later node uses it
+unfoldable pub dropLast : List Node → ℕ → List Record
+dropLast later n = cond (eqb (uses later n) 0) (drop n ∷ []) []
+
+unfoldable pub dropsAfter : Node → List Node → List Record
+dropsAfter (given line c) later = []
+dropsAfter (step p l r c) later = dropLast later (min l r) ++ cond (eqb l r) [] (dropLast later (max l r))
+
+unfoldable pub withDrops : List Node → List Record
+withDrops [] = []
+withDrops (n ∷ later) = node n ∷ (dropsAfter n later ++ withDrops later)
+
+-- the marks of rule lines, 1 for each line of a given node
+unfoldable pub markLines : List Node → List ℕ → List ℕ
+markLines [] marks = marks
+markLines (given line c ∷ s) marks = markLines s (set marks line 1)
+markLines (step p l r c ∷ s) marks = markLines s marks
+
+unfoldable pub total : List ℕ → ℕ
+total [] = 0
+total (m ∷ marks) = m + total marks

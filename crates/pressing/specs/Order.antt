@@ -1,0 +1,48 @@
+-- 5. Order (002, bottom-up pebbling, children heuristic): "Starting from the sink, the premises are placed first, then the node itself,
+-- each node once."
+use Prim.Native.Nat.{ℕ, zero, suc}
+use mathlib.Core.Bool.{Bool, true, false, _||_, cond}
+use mathlib.Core.List.{List, [], _∷_, _++_}
+use lib.Dec.{eqb, ltb}
+use lib.ListN.{length}
+use Rattle.sheet.specs.Records.{Node, given, step, nodeAt}
+use Rattle.pressing.specs.Trim.{usesFrom}
+
+unfoldable pub placed : ℕ → List ℕ → Bool
+placed n [] = false
+placed n (m ∷ order) = eqb n m || placed n order
+
+-- "Of two premises the one with more uses in the pressed proof goes first; equal: left."
+unfoldable pub rightFirst : (ℕ → ℕ) → ℕ → ℕ → Bool
+rightFirst count l r = ltb (count l) (count r)
+
+unfoldable pub inTurn : Bool → (ℕ → List ℕ → List ℕ) → ℕ → ℕ → List ℕ → List ℕ
+inTurn true place l r order = place l (place r order)
+inTurn false place l r order = place r (place l order)
+
+unfoldable pub premises : (ℕ → ℕ) → (ℕ → List ℕ → List ℕ) → Node → List ℕ → List ℕ
+premises count place (given line c) order = order
+premises count place (step p l r c) order = inTurn (rightFirst count l r) place l r order
+
+-- The order is newest first. Parents have smaller numbers, so a depth above n is enough to place n.
+unfoldable pub place : List Node → (ℕ → ℕ) → ℕ → ℕ → List ℕ → List ℕ
+place s count zero n order = order
+place s count (suc depth) n order =
+    elim (placed n order) [ true ↦ order | false ↦ n ∷ premises count (λ m o. place s count depth m o) (nodeAt s n) order ]
+
+unfoldable pub orderFrom : List Node → ℕ → List ℕ
+orderFrom s from = place s (usesFrom s from) (suc from) from []
+
+-- the new number of n: how many were placed before it
+unfoldable pub numberIn : List ℕ → ℕ → ℕ
+numberIn [] n = 0
+numberIn (m ∷ order) n = cond (eqb n m) (length order) (numberIn order n)
+
+unfoldable pub renumber : List ℕ → Node → Node
+renumber order (given line c) = given line c
+renumber order (step p l r c) = step p (numberIn order l) (numberIn order r) c
+
+-- the nodes of an order, the oldest first
+unfoldable pub laid : List Node → List ℕ → List Node
+laid s [] = []
+laid s (n ∷ order) = laid s order ++ (renumber order (nodeAt s n) ∷ [])

@@ -1,0 +1,6 @@
+pub mod Slots
+pub mod Steps
+pub mod Runs
+pub mod Mirrors
+pub mod Accepts
+pub mod Sound
