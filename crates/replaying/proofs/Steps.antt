@@ -1,13 +1,14 @@
 -- The whole replay is the public step, again and again: what a turn comes to, why every state of a replay fits the step, and that the
 -- replay goes on from the state after the steps that were taken.
 use mathlib.Core.Path.{_≡_, refl, sym, ap, ap₂, _∙_}
-use mathlib.Core.Bool.{true}
+use mathlib.Core.Bool.{true, _&&_, and-eq-true-iff}
 use mathlib.Core.List.{List}
 use Prim.Native.Nat.{ℕ, zero, suc, _+_, _-_, _*_, _/_, _≤_, _<_}
 use native.Mathlib.Decide.{ℕ-discrete}
 use native.Mathlib.Omega.{arith}
+use lib.Dec.{eqb, ltb, leb}
 use lib.ListN.{length}
-use borrow.Author.Tests.{eq-eqb, lt-ltb, le-leb}
+use borrow.Author.Tests.{eq-eqb, lt-ltb, le-leb, eqb-true, ltb-true, leb-true}
 use Rattle.base.proofs.Bytes.{length-part}
 use Rattle.clause.specs.Clauses.{Literals}
 use Rattle.sheet.specs.declared.Reason.{Reason}
@@ -39,6 +40,10 @@ module _ (e : Edition) (rules b : List ℕ) (s : State) where
   pub turn-stops : (r : Record) (why : Reason) → reading e true b ≡ reads r → judged e rules s r ≡ Refused why → turn e rules b s ≡ stops why
   unfolding turn byReading byVerdict
   turn-stops r why q v = rw (q, v)
+
+  pub turn-unread : (why : Reason) → reading e true b ≡ unread why → turn e rules b s ≡ stops why
+  unfolding turn byReading
+  turn-unread why q = rw q
 
   -- a turn that goes has read a record, which is fine
   pub turn-went : (t : State) → turn e rules b s ≡ goes t
@@ -115,6 +120,27 @@ fits-within e rules b t table size few held steps =
       le-leb (t .steps) (t .next) steps,
     )
 
+-- and what a fitting record, table and tally tell
+pub fits-tells : (e : Edition) (rules bytes : ℕ) (t : Tally) → fits e rules bytes t ≡ true
+    → (bytes ≡ recordBytes e) × (t .next < replayRecords e) × (t .held ≤ t .next) × (t .steps ≤ t .next)
+unfolding fits reached
+fits-tells e rules bytes t f =
+    let (lent, within) = and-eq-true-iff (eqb bytes (recordBytes e) && passes (checkTable e rules)) (reached e t) .0 f in
+    let (size, table) = and-eq-true-iff (eqb bytes (recordBytes e)) (passes (checkTable e rules)) .0 lent in
+    let (few, steps) = and-eq-true-iff (ltb (t .next) (replayRecords e) && leb (t .held) (t .next)) (leb (t .steps) (t .next)) .0 within in
+    let (next, held) = and-eq-true-iff (ltb (t .next) (replayRecords e)) (leb (t .held) (t .next)) .0 few in (
+      eqb-true bytes (recordBytes e) size,
+      ltb-true (t .next) (replayRecords e) next,
+      leb-true (t .held) (t .next) held,
+      leb-true (t .steps) (t .next) steps,
+    )
+
+-- where they fit, the turn decides
+pub step-by-turn : (e : Edition) (rules b : List ℕ) (k : ℕ) (s : State) (t : Turn)
+    → fits e (length rules) (length b) (s .tally) ≡ true → turn e rules b s ≡ t → oneStep e rules b k s ≡ byTurn k s t
+unfolding oneStep
+step-by-turn e rules b k s t f q = rw f (ap (byTurn k s) q)
+
 pub step-is-turn : (e : Edition) (rules b : List ℕ) (k : ℕ) (s : State)
     → checkTable e (length rules) ≡ Fine
     → length b ≡ recordBytes e
@@ -122,8 +148,8 @@ pub step-is-turn : (e : Edition) (rules b : List ℕ) (k : ℕ) (s : State)
     → s .tally .held ≤ s .tally .next
     → s .tally .steps ≤ s .tally .next
     → oneStep e rules b k s ≡ byTurn k s (turn e rules b s)
-unfolding oneStep
-step-is-turn e rules b k s table size few held steps = rw (fits-within e rules b (s .tally) table size few held steps)
+step-is-turn e rules b k s table size few held steps =
+    step-by-turn e rules b k s (turn e rules b s) (fits-within e rules b (s .tally) table size few held steps) refl
 
 -- ---- the public step in a run
 
