@@ -1,1 +1,6 @@
 pub mod Unique
+pub mod Judging
+pub mod Emits
+pub mod Emitting
+pub mod Rooms
+pub mod Cores

@@ -3,6 +3,10 @@ use clause::Clause;
 use sheet::Reason;
 use sheet::RecordNo;
 
+pub mod emit;
+pub mod judge;
+pub mod marks;
+
 pub struct Pressed {
     pub conclusion: Clause,
     pub records: u16,

@@ -1,0 +1,76 @@
+-- `order_from` and `arrange`: tables lent as the front part of an array, the order from a node, and what laying it out may assume.
+use Prim.Native.Nat.{ℕ, suc, _≤_, _<_}
+use mathlib.Core.Path.{_≡_, ap, _∙_}
+use mathlib.Core.List.{List, [], _++_}
+use native.Mathlib.Omega.{arith}
+use lib.ListN.{length, getD, take, drop, replicate, length-replicate}
+use lib.Seq.{length-front, length-take-le, take-at}
+use Rattle.base.proofs.Lists.{getD-blank}
+use Rattle.sheet.specs.Records.{Node}
+use Rattle.tables.specs.Tables.{nodesIn, Nodes}
+use Rattle.pressing.specs.Trim.{trim, trimmed, uses, usesFrom}
+use Rattle.pressing.specs.Order.{placed, place, orderFrom, laid}
+use Rattle.order.specs.Placing.{orderIn, Numbered, Placing, Laying}
+use Rattle.pressing.proofs.Laid.{length-laid}
+use Rattle.order.proofs.Placing.{length-orderIn, in-orderly, Made}
+use Rattle.order.proofs.Arranged.{arranged-order, arranged-some, arranged-fits}
+
+-- ---- the front part of a list, lent and given back
+
+module _ {A : Type 0} (d e : List A) (n : ℕ) (kept : length e ≡ length (take n d)) (fits : n ≤ length d) where
+  pub front-long : n ≤ length (e ++ drop n d)
+  front-long = rw (length-front d e n kept) fits
+
+  pub front-again : take n (e ++ drop n d) ≡ e
+  front-again = take-at e (drop n d) n (kept ∙ length-take-le n d fits)
+
+-- ---- the order from a node
+
+pub uses-found : (s : List Node) (from m x : ℕ) (kept again : List ℕ) → kept ≡ trim s from → again ≡ kept → x ≡ uses (trimmed s again) m → x ≡ usesFrom s from m
+unfolding usesFrom
+uses-found s from m x kept again p q e = e ∙ rw (q, p)
+
+pub starts : {h a b : List ℕ} (t numbers cleared order : List ℕ) (from : ℕ) → Nodes h a b → from < length h → length t ≡ length h
+    → length numbers ≡ length h → length order ≡ length h → cleared ≡ replicate (length numbers) 0 → Placing h a b t cleared order from 0
+unfolding orderIn placed
+starts t numbers cleared order from tables i c l o e = record {
+  tables = tables;
+  inside = i;
+  counted = c;
+  long = ap length e ∙ length-replicate (length numbers) 0 ∙ l;
+  room = o;
+  orderly = tt;
+  numbered = λ n. rw e (getD-blank {A = ℕ} (length numbers) n 0);
+}
+
+pub order-found : (s : List Node) (from : ℕ) (counts again order new : List ℕ) → ((m : ℕ) → getD counts m 0 ≡ usesFrom s from m)
+    → again ≡ counts → Made s again from (orderIn order 0) new → new ≡ orderFrom s from
+unfolding orderIn orderFrom
+order-found s from counts again order new f e m =
+    m (suc from) (omega arith)
+    ∙ ap (λ (t : List ℕ). place s (λ k. getD t k 0) (suc from) from []) e
+    ∙ ap (λ (u : ℕ → ℕ). place s u (suc from) from []) (λ i k. f k i)
+
+-- ---- laying it out
+
+module _ {h a b : List ℕ} (tables : Nodes h a b) {from : ℕ} (inside : from < length h) (order : List ℕ) (k : ℕ)
+    (made : orderIn order k ≡ orderFrom (nodesIn h a b) from) where
+  pub order-count : k ≡ length (laid (nodesIn h a b) (orderFrom (nodesIn h a b) from))
+  order-count = rw (length-laid, ← made, length-orderIn)
+
+  pub count-some : (1 ≤ k) × (k ≤ length h)
+  count-some = (omega (arith, order-count, arranged-some tables from inside), omega (arith, order-count, arranged-fits tables from inside))
+
+  module _ (again : List ℕ) (q : again ≡ order) where
+    pub lays : (numbers numbers′ : List ℕ) → numbers′ ≡ numbers → length order ≡ length h → Numbered numbers (orderIn order k)
+        → Laying h a b numbers′ again k
+    lays numbers numbers′ p long f = record {
+      tables = tables;
+      room = rw q (omega (arith, count-some));
+      orderly = rw (q, made) (in-orderly (nodesIn h a b) (length h) (orderFrom (nodesIn h a b) from) (arranged-order tables from inside));
+      numbered = rw (p, q) f;
+    }
+
+    pub lays-out : (out : List Node) → take k out ≡ laid (nodesIn h a b) (orderIn again k)
+        → take k out ≡ laid (nodesIn h a b) (orderFrom (nodesIn h a b) from)
+    lays-out out e = e ∙ rw (q, made)

@@ -1,0 +1,4 @@
+pub mod Arranged
+pub mod Arranging
+pub mod Laying
+pub mod Placing

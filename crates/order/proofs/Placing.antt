@@ -1,0 +1,234 @@
+-- Placing in tables: what one store makes of an order and of the numbers, and what a call of `place` asks and gives.
+use Prim.Native.Nat.{ℕ, zero, suc, _+_, _≤_, _<_}
+use mathlib.Core.Path.{_≡_, refl, sym, ap, _∙_}
+use mathlib.Core.Bool.{Bool, true, false, cond}
+use mathlib.Core.List.{List, [], _∷_}
+use native.Mathlib.Omega.{arith}
+use native.Mathlib.Decide.{ℕ-discrete, decLt}
+use native.Mathlib.Numerals.{add-one}
+use lib.ListN.{length, getD, set, List·getD-eq-default}
+use lib.Seq.{getD-set-same, getD-set-other}
+use borrow.Author.Tests.{lt-ltb, le-ltb, eq-eqb, ne-eqb}
+use Rattle.base.proofs.Lists.{cond-both}
+use Rattle.clause.specs.Clauses.{Literals}
+use Rattle.sheet.specs.Records.{Node, given, step, nodeAt}
+use Rattle.tables.specs.Tables.{nodesIn, Nodes, Sound}
+use Rattle.pressing.specs.Order.{placed, rightFirst, inTurn, premises, place, numberIn}
+use Rattle.order.specs.Placing.{orderIn, Numbered, Premised, Orderly, Placing}
+use Rattle.pressing.proofs.Nodes.{Parents, Falls, Falling}
+use Rattle.tables.proofs.Tables.{nodes-length}
+use Rattle.tables.proofs.Found.{IsGiven}
+use Rattle.pressing.proofs.Ordered.{InOrder, place-old, place-new, place-placing}
+use Rattle.pressing.proofs.Counted.{order-fits}
+
+-- ---- the premise that goes first
+
+module _ (t : List ℕ) (l r i j x y : ℕ) where
+  pub right-goes : getD t i 0 < getD t j 0 → i ≡ l → j ≡ r → x ≡ cond (rightFirst (λ m. getD t m 0) l r) x y
+  unfolding rightFirst
+  right-goes h p q = rw (← p, ← q, lt-ltb (getD t i 0) (getD t j 0) h)
+
+  pub left-goes : getD t j 0 ≤ getD t i 0 → i ≡ l → j ≡ r → y ≡ cond (rightFirst (λ m. getD t m 0) l r) x y
+  unfolding rightFirst
+  left-goes h p q = rw (← p, ← q, le-ltb (getD t i 0) (getD t j 0) h)
+
+-- ---- orders in tables
+
+pub length-orderIn : (t : List ℕ) (k : ℕ) → length (orderIn t k) ≡ k
+unfolding orderIn
+length-orderIn t zero = refl
+length-orderIn t (suc k) = ap suc (length-orderIn t k)
+
+order-past : (t : List ℕ) (k i x : ℕ) → k ≤ i → orderIn (set t i x) k ≡ orderIn t k
+unfolding orderIn
+order-past t zero i x h = refl
+order-past t (suc k) i x h = rw (getD-set-other t i k x 0 (omega arith), order-past t k i x (omega arith))
+
+pub order-put : (t : List ℕ) (k i x : ℕ) → i ≡ k → k < length t → orderIn (set t i x) (k + 1) ≡ x ∷ orderIn t k
+unfolding orderIn
+order-put t k i x e h = rw (e, add-one k, getD-set-same t k x 0 h, order-past t k k x (omega arith))
+
+-- ---- numbers
+
+numbered-more : (numbers order : List ℕ) (n : ℕ) → n < length numbers → Numbered numbers order → Numbered (set numbers n (suc (length order))) (n ∷ order)
+unfolding placed numberIn
+numbered-more numbers order n h f m = elim (ℕ-discrete m n) [
+  | yes e ↦ rw (e, eq-eqb n n refl) (getD-set-same numbers n (suc (length order)) 0 h)
+  | no e ↦ rw (ne-eqb m n e) (getD-set-other numbers n m (suc (length order)) 0 e ∙ f m)
+]
+
+pub numbered-put : (numbers t : List ℕ) (k n i j : ℕ) → i ≡ n → j ≡ k → n < length numbers → k < length t → Numbered numbers (orderIn t k)
+    → Numbered (set numbers i (k + 1)) (orderIn (set t j n) (k + 1))
+numbered-put numbers t k n i j p q h o f =
+    let e : suc (length (orderIn t k)) ≡ k + 1 = omega (arith, length-orderIn t k) in
+    rw (order-put t k j n q o, p, ← e) (numbered-more numbers (orderIn t k) n h f)
+
+module _ (numbers order : List ℕ) (n : ℕ) (f : Numbered numbers order) where
+  by-place : (u : Bool) → placed n order ≡ u → getD numbers n 0 ≡ cond u (suc (numberIn order n)) 0
+  by-place u e = rw e at (f n)
+
+  has-place : (i : ℕ) → i ≡ n → (getD numbers i 0 ≡ 0 → ⊥) → placed n order ≡ true
+  has-place i e h = by (placed n order) refl
+    where
+      by : (u : Bool) → placed n order ≡ u → u ≡ true
+      by true q = refl
+      by false q = absurd (h (rw e (by-place false q)))
+
+  no-place : (i : ℕ) → i ≡ n → getD numbers i 0 ≡ 0 → placed n order ≡ false
+  no-place i e h = by (placed n order) refl
+    where
+      by : (u : Bool) → placed n order ≡ u → u ≡ false
+      by true q = let z : getD numbers n 0 ≡ 0 = rw (← e) h in absurd (omega (arith, by-place true q))
+      by false q = refl
+
+-- ---- orderly orders
+
+abbrev Below : ℕ → ℕ → Type 0
+Below k n = n < k
+
+module _ (s : List Node) (k : ℕ) where
+  premised-parents : (order : List ℕ) (m : Node) → Premised order m → Parents (λ n. placed n order ≡ true) m
+  premised-parents order (given line c) h = h
+  premised-parents order (step p l r c) h = h
+
+  parents-premised : (order : List ℕ) (m : Node) → Parents (λ n. placed n order ≡ true) m → Premised order m
+  parents-premised order (given line c) h = h
+  parents-premised order (step p l r c) h = h
+
+  orderly-in : (order : List ℕ) → Orderly s k order → InOrder s (Below k) order
+  orderly-in [] o = tt
+  orderly-in (n ∷ order) o = (o .0, o .1, premised-parents order (nodeAt s n) (o .2), orderly-in order (o .3))
+
+  pub in-orderly : (order : List ℕ) → InOrder s (Below k) order → Orderly s k order
+  in-orderly [] o = tt
+  in-orderly (n ∷ order) o = (o .0, o .1, parents-premised order (nodeAt s n) (o .2), in-orderly order (o .3))
+
+-- ---- sound tables
+
+module _ (h a b : List ℕ) (tables : Nodes h a b) where
+  sound-falls : (n : ℕ) (m : Node) → Sound n m → Falls n m
+  sound-falls n (given line c) d = tt
+  sound-falls n (step p l r c) d = (d .1, d .2)
+
+  pub nodes-falling : Falling (nodesIn h a b)
+  unfolding nodeAt
+  nodes-falling n = elim (decLt n (length h)) [
+    | yes i ↦ sound-falls n (nodeAt (nodesIn h a b) n) (tables .sound n i)
+    | no i ↦ rw (List·getD-eq-default (nodesIn h a b) _ {n = n} (rw (nodes-length h a b (tables .plus) (tables .minus)) (omega arith))) tt
+  ]
+
+  falls-below : (n : ℕ) (m : Node) → n < length h → Falls n m → Parents (λ k. k < length h) m
+  falls-below n (given line c) i d = tt
+  falls-below n (step p l r c) i d = (omega (arith, d .0), omega (arith, d .1))
+
+  -- the nodes are closed under parents
+  pub nodes-closed : (n : ℕ) → n < length h → Parents (λ k. k < length h) (nodeAt (nodesIn h a b) n)
+  nodes-closed n i = falls-below n (nodeAt (nodesIn h a b) n) i (nodes-falling n)
+
+-- ---- what placing makes of an order
+
+module _ (s : List Node) (t : List ℕ) where
+  abbrev uses : ℕ → ℕ
+  uses m = getD t m 0
+
+  abbrev pub Made : ℕ → List ℕ → List ℕ → Type 0
+  Made n old new = (d : ℕ) → n < d → new ≡ place s (λ m. getD t m 0) d n old
+
+  in-turn : (u : Bool) (go : ℕ → List ℕ → List ℕ) (l r : ℕ) (o : List ℕ) → go (cond u l r) (go (cond u r l) o) ≡ inTurn u go l r o
+  unfolding inTurn
+  in-turn true go l r o = refl
+  in-turn false go l r o = refl
+
+  steps : (n p l r : ℕ) (c : Literals) (x y : ℕ) (o o₁ o₂ : List ℕ) → placed n o ≡ false → nodeAt s n ≡ step p l r c
+      → x ≡ cond (rightFirst uses l r) r l → y ≡ cond (rightFirst uses l r) l r → x < n → y < n → Made x o o₁ → Made y o₁ o₂ → Made n o (n ∷ o₂)
+  unfolding premises
+  steps n p l r c x y o o₁ o₂ q a e f i j m₁ m₂ zero h = absurd (omega arith)
+  steps n p l r c x y o o₁ o₂ q a e f i j m₁ m₂ (suc d) h =
+      let go : ℕ → List ℕ → List ℕ = λ k z. place s uses d k z in
+      let both : o₂ ≡ go y (go x o) = m₂ d (omega arith) ∙ ap (go y) (m₁ d (omega arith)) in
+      let turns : go y (go x o) ≡ inTurn (rightFirst uses l r) go l r o = rw (e, f) (in-turn (rightFirst uses l r) go l r o) in
+      ap (λ (z : List ℕ). n ∷ z) (both ∙ turns) ∙ sym (place-new s uses d n o q ∙ rw a)
+
+-- ---- what a call of `place` asks and gives
+
+module _ {h a b t numbers order : List ℕ} {n k : ℕ} (P : Placing h a b t numbers order n k) where
+  abbrev s : List Node
+  s = nodesIn h a b
+
+  abbrev old : List ℕ
+  old = orderIn order k
+
+  made-in : (new : List ℕ) → Made s t n old new → InOrder s (Below (length h)) new
+  made-in new m =
+      rw (m (suc n) (omega arith))
+      (place-placing s (uses s t) (nodes-falling h a b (P .tables)) (Below (length h)) (nodes-closed h a b (P .tables)) (suc n) n
+      old (omega arith) (P .inside) (orderly-in s (length h) old (P .orderly)) .order)
+
+  -- there is room for n
+  pub made-fits : (order₁ : List ℕ) (k₁ : ℕ) → Made s t n old (n ∷ orderIn order₁ k₁) → k₁ < length h
+  made-fits order₁ k₁ m =
+      omega (
+        arith,
+        length-orderIn order₁ k₁,
+        order-fits s (Below (length h)) (length h) (λ i o. o) (n ∷ orderIn order₁ k₁) (made-in (n ∷ orderIn order₁ k₁) m),
+      )
+
+  -- another call, after this one
+  pub asks-next : (numbers₁ order₁ : List ℕ) (k₁ y : ℕ) → Made s t n old (orderIn order₁ k₁) → Numbered numbers₁ (orderIn order₁ k₁)
+      → length numbers₁ ≡ length numbers → length order₁ ≡ length order → y < length h → Placing h a b t numbers₁ order₁ y k₁
+  asks-next numbers₁ order₁ k₁ y m f p q i = record {
+    tables = P .tables;
+    inside = i;
+    counted = P .counted;
+    long = p ∙ P .long;
+    room = q ∙ P .room;
+    orderly = in-orderly s (length h) (orderIn order₁ k₁) (made-in (orderIn order₁ k₁) m);
+    numbered = f;
+  }
+
+  -- a call for a smaller node
+  pub asks-first : (x : ℕ) → x < n → Placing h a b t numbers order x k
+  asks-first x i = record {
+    tables = P .tables;
+    inside = omega (arith, P .inside);
+    counted = P .counted;
+    long = P .long;
+    room = P .room;
+    orderly = P .orderly;
+    numbered = P .numbered;
+  }
+
+  module _ {i : ℕ} (same : i ≡ n) where
+    pub made-old : (getD numbers i 0 ≡ 0 → ⊥) → Made s t n old old
+    made-old q zero o = absurd (omega arith)
+    made-old q (suc d) o = sym (place-old s (uses s t) d n old (has-place numbers old n (P .numbered) i same q))
+
+    module _ (z : getD numbers i 0 ≡ 0) where
+      new : placed n old ≡ false
+      new = no-place numbers old n (P .numbered) i same z
+
+      pub made-given : IsGiven (nodeAt s n) → Made s t n old (n ∷ old)
+      unfolding premises
+      made-given g zero o = absurd (omega arith)
+      made-given (line, c, e) (suc d) o = sym (place-new s (uses s t) d n old new ∙ rw e)
+
+  module _ {p l r : ℕ} {c : Literals} (e : nodeAt s n ≡ step p l r c) where
+    sound : Sound n (step p l r c)
+    sound = rw e at (P .tables .sound n (P .inside))
+
+    pub left-inside : l < length t
+    left-inside = omega (arith, sound, P .inside, P .counted)
+
+    pub right-inside : r < length t
+    right-inside = omega (arith, sound, P .inside, P .counted)
+
+    pub first-below : {x : ℕ} → x ≡ cond (rightFirst (uses s t) l r) r l → x < n
+    first-below f = rw f (cond-both (λ m. m < n) (rightFirst (uses s t) l r) r l (sound .2) (sound .1))
+
+    pub second-below : {y : ℕ} → y ≡ cond (rightFirst (uses s t) l r) l r → y < n
+    second-below f = rw f (cond-both (λ m. m < n) (rightFirst (uses s t) l r) l r (sound .1) (sound .2))
+
+    pub made-step : {i x y : ℕ} (o₁ o₂ : List ℕ) → i ≡ n → getD numbers i 0 ≡ 0 → x ≡ cond (rightFirst (uses s t) l r) r l
+        → y ≡ cond (rightFirst (uses s t) l r) l r → Made s t x old o₁ → Made s t y o₁ o₂ → Made s t n old (n ∷ o₂)
+    made-step {i} {x} {y} o₁ o₂ same z f g m₁ m₂ =
+        steps s t n p l r c x y old o₁ o₂ (new same z) e f g (first-below f) (second-below g) m₁ m₂

@@ -1,0 +1,156 @@
+// 5. Order (002, bottom-up pebbling, children heuristic): "Starting from the sink, the premises are placed first, then the node itself,
+// each node once."
+ghost use mathlib.Core.Path.{_≡_};
+ghost use mathlib.Core.Bool.{cond};
+ghost use mathlib.Core.List.{_∷_};
+ghost use Prim.Native.Nat.{ℕ, _≤_, _<_};
+ghost use lib.ListN.{length, getD};
+ghost use Rattle.tables.specs.Tables.{nodesIn, Nodes};
+ghost use Rattle.pressing.specs.Trim.{usesFrom};
+ghost use Rattle.pressing.specs.Order.{rightFirst, place, orderFrom};
+ghost use Rattle.order.specs.Placing.{orderIn, Numbered, Placing};
+use sheet::NodeNo;
+use sheet::Record;
+use tables::clear;
+use tables::node;
+use tables::trim;
+use tables::uses;
+
+// x where premise r has more uses than premise l, and y otherwise.
+fn weigh(counts: &[u16], l: NodeNo, r: NodeNo, x: NodeNo, y: NodeNo) -> NodeNo
+    requires { ⌜ (l .0 < length (now counts)) × (r .0 < length (now counts)) ⌝ }
+    ensures { λ z. ⌜ z .0 ≡ cond (rightFirst (λ m. getD (now (counts .entry)) m 0) (l .0) (r .0)) (x .0) (y .0) ⌝ }
+{
+    let i = base::wide(l.0);
+    let j = base::wide(r.0);
+    if counts[i] < counts[j] {
+        return x;
+    }
+    y
+}
+
+// "Of two premises the one with more uses in the pressed proof goes first; equal: left."
+fn heavier(counts: &[u16], l: NodeNo, r: NodeNo) -> NodeNo
+    requires { ⌜ (l .0 < length (now counts)) × (r .0 < length (now counts)) ⌝ }
+    ensures { λ x. ⌜ x .0 ≡ cond (rightFirst (λ m. getD (now (counts .entry)) m 0) (l .0) (r .0)) (r .0) (l .0) ⌝ }
+{
+    weigh(counts, l, r, r, l)
+}
+
+// The other premise.
+fn lighter(counts: &[u16], l: NodeNo, r: NodeNo) -> NodeNo
+    requires { ⌜ (l .0 < length (now counts)) × (r .0 < length (now counts)) ⌝ }
+    ensures { λ x. ⌜ x .0 ≡ cond (rightFirst (λ m. getD (now (counts .entry)) m 0) (l .0) (r .0)) (l .0) (r .0) ⌝ }
+{
+    weigh(counts, l, r, l, r)
+}
+
+// Node n is the next of the order.
+fn put_next(n: NodeNo, numbers: &mut [u16], order: &mut [u16], count: u16) -> u16
+    requires { ⌜ (n .0 < length (now numbers)) × (count < length (now order)) × (length (now order) ≤ 512) ⌝ }
+    requires { ⌜ Numbered (now numbers) (orderIn (now order) count) ⌝ }
+    ensures order { λ r. ⌜ orderIn (now (order .exit)) r ≡ n .0 ∷ orderIn (now (order .entry)) count ⌝ }
+    ensures numbers { λ r. ⌜ Numbered (now (numbers .exit)) (orderIn (now (order .exit)) r) ⌝ }
+{
+    let i = base::wide(n.0);
+    let k = base::wide(count);
+    order[k] = n.0;
+    numbers[i] = count + 1;
+    count + 1
+}
+
+// Places node n after its premises. "A parent's number in step 4 is always smaller than its child's": the node number falls at each call.
+pub fn place(
+    heads: &[u64],
+    positives: &[u64],
+    negatives: &[u64],
+    counts: &[u16],
+    n: NodeNo,
+    numbers: &mut [u16],
+    order: &mut [u16],
+    count: u16,
+) -> u16
+    requires { ⌜ Placing (now heads) (now positives) (now negatives) (now counts) (now numbers) (now order) (n .0) count ⌝ }
+    ensures order { λ r. ⌜ ((d : ℕ) → n .0 < d → orderIn (now (order .exit)) r ≡ place (nodesIn (now (heads .entry)) (now (positives .entry)) (now (negatives .entry))) (λ m. getD (now (counts .entry)) m 0) d (n .0) (orderIn (now (order .entry)) count)) ⌝ }
+    ensures numbers { λ r. ⌜ Numbered (now (numbers .exit)) (orderIn (now (order .exit)) r) ⌝ }
+{
+    let i = base::wide(n.0);
+    if numbers[i] != 0 {
+        return count;
+    }
+    let found = node::node_at(heads, positives, negatives, n);
+    let Record::Step {
+        pivot: _,
+        left,
+        right,
+        clause: _,
+    } = found
+    else {
+        return put_next(n, numbers, order, count);
+    };
+    let first = heavier(counts, left, right);
+    let second = lighter(counts, left, right);
+    let one = place(
+        heads,
+        positives,
+        negatives,
+        counts,
+        first,
+        numbers,
+        order,
+        count,
+    );
+    let two = place(
+        heads,
+        positives,
+        negatives,
+        counts,
+        second,
+        numbers,
+        order,
+        one,
+    );
+    put_next(n, numbers, order, two)
+}
+
+// 4. "Trim again from the sink's stand-in", and the uses in what is left.
+fn uses_from(heads: &[u64], positives: &[u64], negatives: &[u64], from: NodeNo, counts: &mut [u16])
+    requires { ⌜ Nodes (now heads) (now positives) (now negatives) ⌝ }
+    requires { ⌜ (length (now counts) ≡ length (now heads)) × (from .0 < length (now heads)) ⌝ }
+    ensures { λ _. ⌜ ((m : ℕ) → getD (now (counts .exit)) m 0 ≡ usesFrom (nodesIn (now (heads .entry)) (now (positives .entry)) (now (negatives .entry))) (from .0) m) ⌝ }
+{
+    let mut kept = [0u8; 512];
+    let n = heads.len();
+    trim::trim(heads, positives, negatives, from, &mut kept[..n]);
+    uses::count_uses(heads, positives, negatives, &kept[..n], counts);
+}
+
+// The order from a node, and how many it has.
+pub fn order_from(
+    heads: &[u64],
+    positives: &[u64],
+    negatives: &[u64],
+    from: NodeNo,
+    numbers: &mut [u16],
+    order: &mut [u16],
+) -> u16
+    requires { ⌜ Nodes (now heads) (now positives) (now negatives) ⌝ }
+    requires { ⌜ (length (now numbers) ≡ length (now heads)) × (length (now order) ≡ length (now heads)) × (from .0 < length (now heads)) ⌝ }
+    ensures order { λ r. ⌜ orderIn (now (order .exit)) r ≡ orderFrom (nodesIn (now (heads .entry)) (now (positives .entry)) (now (negatives .entry))) (from .0) ⌝ }
+    ensures numbers { λ r. ⌜ Numbered (now (numbers .exit)) (orderIn (now (order .exit)) r) ⌝ }
+{
+    let mut counts = [0u16; 512];
+    let n = heads.len();
+    uses_from(heads, positives, negatives, from, &mut counts[..n]);
+    clear::clear_numbers(numbers);
+    place(
+        heads,
+        positives,
+        negatives,
+        &counts[..n],
+        from,
+        numbers,
+        order,
+        0,
+    )
+}

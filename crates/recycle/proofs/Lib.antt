@@ -1,0 +1,4 @@
+pub mod Reaches
+pub mod Rebuilds
+pub mod Recycles
+pub mod Sounds

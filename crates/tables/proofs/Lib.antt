@@ -1,0 +1,5 @@
+pub mod Found
+pub mod Lent
+pub mod Tables
+pub mod Trims
+pub mod Used

@@ -1,0 +1,47 @@
+-- Laws of the press's tables: what the words of a node say, and what a store makes of the nodes.
+use mathlib.Core.Path.{_≡_, refl, sym, ap, ap₂, _∙_}
+use mathlib.Core.Bool.{Bool, true, false, cond}
+use mathlib.Core.List.{List}
+use Prim.Native.Nat.{ℕ, _+_, _*_, _/_, _%_, _<_}
+use native.Mathlib.Omega.{arith}
+use borrow.Author.Tests.{eq-eqb, ne-eqb}
+use lib.Dec.{eqb}
+use lib.ListN.{length, getD, set}
+use Rattle.base.proofs.Lists.{zip3-set, zip3-getD, zip3-length}
+use Rattle.clause.specs.Clauses.{literals}
+use Rattle.sheet.specs.Records.{Node, given, step, nodeAt}
+use Rattle.tables.specs.Tables.{nodeOf, nodesIn}
+
+pub given-head : (line p q : ℕ) → nodeOf (1 + line * 281474976710656) p q ≡ given line (literals p q)
+unfolding nodeOf
+given-head line p q =
+    let low : (1 + line * 281474976710656) % 256 ≡ 1 = omega arith in
+    let high : (1 + line * 281474976710656) / 281474976710656 ≡ line = omega arith in
+    simp (low, high)
+
+pub step-head : (p l r a b : ℕ) → p < 256 → l < 65536 → r < 65536
+    → nodeOf (2 + p * 256 + l * 65536 + r * 4294967296) a b ≡ step p l r (literals a b)
+unfolding nodeOf
+step-head p l r a b hp hl hr =
+    let kind : (2 + p * 256 + l * 65536 + r * 4294967296) % 256 ≡ 2 = omega arith in
+    let by1 : (2 + p * 256 + l * 65536 + r * 4294967296) / 256 ≡ p + l * 256 + r * 16777216 = omega arith in
+    let by2 : (2 + p * 256 + l * 65536 + r * 4294967296) / 65536 ≡ l + r * 65536 = omega arith in
+    let by4 : (2 + p * 256 + l * 65536 + r * 4294967296) / 4294967296 ≡ r = omega arith in
+    let pivot : (p + l * 256 + r * 16777216) % 256 ≡ p = omega arith in
+    let left : (l + r * 65536) % 65536 ≡ l = omega arith in
+    let right : r % 65536 ≡ r = omega arith in
+    simp (kind, by1, by2, by4, pivot, left, right)
+
+module _ (heads positives negatives : List ℕ) where
+  pub nodes-set : (i x y z : ℕ) → nodesIn (set heads i x) (set positives i y) (set negatives i z) ≡ set (nodesIn heads positives negatives) i (nodeOf x y z)
+  unfolding nodesIn
+  nodes-set i x y z = zip3-set nodeOf heads positives negatives i x y z
+
+  module _ (p : length positives ≡ length heads) (q : length negatives ≡ length heads) where
+    pub nodes-length : length (nodesIn heads positives negatives) ≡ length heads
+    unfolding nodesIn
+    nodes-length = zip3-length nodeOf heads positives negatives (length heads) refl p q
+
+    pub nodes-at : (i : ℕ) → i < length heads → nodeAt (nodesIn heads positives negatives) i ≡ nodeOf (getD heads i 0) (getD positives i 0) (getD negatives i 0)
+    unfolding nodesIn nodeAt
+    nodes-at i h = zip3-getD nodeOf heads positives negatives (length heads) refl p q i _ h
