@@ -89,6 +89,17 @@ ReplaySound =
     → ((k line : ℕ) (d : Literals) → k < length rs → recordIn rs k ≡ node (given line d) → Satisfies m (ruleLine e rules line))
     → Satisfies m c
 
+-- "An empty conclusion means that the lines cannot all hold."
+abbrev pub ReplayEmpty : Type 0
+ReplayEmpty =
+    (e : Edition) (sheet rules : List ℕ) (slots : List Slot) (rs : List Record) (c : Literals) (nodes steps peak : ℕ)
+    → ReadsAs e true sheet rs
+    → Replay.replay e sheet rules slots .answer ≡ Replay.accepted c nodes steps peak
+    → c ≡ none
+    → (m : Setting)
+    → ((k line : ℕ) (d : Literals) → k < length rs → recordIn rs k ≡ node (given line d) → Satisfies m (ruleLine e rules line))
+    → ⊥
+
 -- what an accepted press says, and the bytes and the marks that it wrote
 pub record Accepted (e : Edition) (sheet rules out marks : List ℕ) (c : Literals) (records nodes steps peak marked : ℕ) : Type 0 where
   pub rule-bytes : Bytes rules

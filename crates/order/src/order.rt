@@ -45,21 +45,21 @@ fn lighter(counts: &[u16], l: NodeNo, r: NodeNo) -> NodeNo
     weigh(counts, l, r, l, r)
 }
 
-// Node n is the next of the order.
-fn put_next(n: NodeNo, numbers: &mut [u16], order: &mut [u16], count: u16) -> u16
-    requires { ⌜ (n .0 < length (now numbers)) × (count < length (now order)) × (length (now order) ≤ 512) ⌝ }
-    requires { ⌜ Numbered (now numbers) (orderIn (now order) count) ⌝ }
-    ensures order { λ r. ⌜ orderIn (now (order .exit)) r ≡ n .0 ∷ orderIn (now (order .entry)) count ⌝ }
+// Node n comes next in the order.
+fn put_next(n: NodeNo, numbers: &mut [u16], order: &mut [u16], next: u16) -> u16
+    requires { ⌜ (n .0 < length (now numbers)) × (next < length (now order)) × (length (now order) ≤ 512) ⌝ }
+    requires { ⌜ Numbered (now numbers) (orderIn (now order) next) ⌝ }
+    ensures order { λ r. ⌜ orderIn (now (order .exit)) r ≡ n .0 ∷ orderIn (now (order .entry)) next ⌝ }
     ensures numbers { λ r. ⌜ Numbered (now (numbers .exit)) (orderIn (now (order .exit)) r) ⌝ }
 {
     let i = base::wide(n.0);
-    let k = base::wide(count);
+    let k = base::wide(next);
     order[k] = n.0;
-    numbers[i] = count + 1;
-    count + 1
+    numbers[i] = next + 1;
+    next + 1
 }
 
-// Places node n after its premises. "A parent's number in step 4 is always smaller than its child's": the node number falls at each call.
+// Places node n, after its premises. "A parent's number in step 4 is always smaller than its child's": the node number falls at each call.
 pub fn place(
     heads: &[u64],
     positives: &[u64],
@@ -68,48 +68,24 @@ pub fn place(
     n: NodeNo,
     numbers: &mut [u16],
     order: &mut [u16],
-    count: u16,
+    next: u16,
 ) -> u16
-    requires { ⌜ Placing (now heads) (now positives) (now negatives) (now counts) (now numbers) (now order) (n .0) count ⌝ }
-    ensures order { λ r. ⌜ ((d : ℕ) → n .0 < d → orderIn (now (order .exit)) r ≡ place (nodesIn (now (heads .entry)) (now (positives .entry)) (now (negatives .entry))) (λ m. getD (now (counts .entry)) m 0) d (n .0) (orderIn (now (order .entry)) count)) ⌝ }
+    requires { ⌜ Placing (now heads) (now positives) (now negatives) (now counts) (now numbers) (now order) (n .0) next ⌝ }
+    ensures order { λ r. ⌜ ((d : ℕ) → n .0 < d → orderIn (now (order .exit)) r ≡ place (nodesIn (now (heads .entry)) (now (positives .entry)) (now (negatives .entry))) (λ m. getD (now (counts .entry)) m 0) d (n .0) (orderIn (now (order .entry)) next)) ⌝ }
     ensures numbers { λ r. ⌜ Numbered (now (numbers .exit)) (orderIn (now (order .exit)) r) ⌝ }
 {
     let i = base::wide(n.0);
     if numbers[i] != 0 {
-        return count;
+        return next;
     }
     let found = node::node_at(heads, positives, negatives, n);
-    let Record::Step {
-        pivot: _,
-        left,
-        right,
-        clause: _,
-    } = found
-    else {
-        return put_next(n, numbers, order, count);
+    let Record::Step { left, right, .. } = found else {
+        return put_next(n, numbers, order, next);
     };
-    let first = heavier(counts, left, right);
-    let second = lighter(counts, left, right);
-    let one = place(
-        heads,
-        positives,
-        negatives,
-        counts,
-        first,
-        numbers,
-        order,
-        count,
-    );
-    let two = place(
-        heads,
-        positives,
-        negatives,
-        counts,
-        second,
-        numbers,
-        order,
-        one,
-    );
+    let a = heavier(counts, left, right);
+    let b = lighter(counts, left, right);
+    let one = place(heads, positives, negatives, counts, a, numbers, order, next);
+    let two = place(heads, positives, negatives, counts, b, numbers, order, one);
     put_next(n, numbers, order, two)
 }
 
