@@ -8,7 +8,7 @@ use lib.Seq.{length-front, length-take-le, take-at}
 use Rattle.base.proofs.Lists.{getD-blank}
 use Rattle.sheet.specs.Records.{Node}
 use Rattle.tables.specs.Tables.{nodesIn, Nodes}
-use Rattle.pressing.specs.Trim.{trim, trimmed, uses, usesFrom}
+use Rattle.pressing.specs.Trim.{usesFrom}
 use Rattle.pressing.specs.Order.{placed, place, orderFrom, laid}
 use Rattle.order.specs.Placing.{orderIn, Numbered, Placing, Laying}
 use Rattle.pressing.proofs.Laid.{length-laid}
@@ -25,10 +25,6 @@ module _ {A : Type 0} (d e : List A) (n : ℕ) (kept : length e ≡ length (take
   front-again = take-at e (drop n d) n (kept ∙ length-take-le n d fits)
 
 -- ---- the order from a node
-
-pub uses-found : (s : List Node) (from m x : ℕ) (kept again : List ℕ) → kept ≡ trim s from → again ≡ kept → x ≡ uses (trimmed s again) m → x ≡ usesFrom s from m
-unfolding usesFrom
-uses-found s from m x kept again p q e = e ∙ rw (q, p)
 
 pub starts : {h a b : List ℕ} (t numbers cleared order : List ℕ) (from : ℕ) → Nodes h a b → from < length h → length t ≡ length h
     → length numbers ≡ length h → length order ≡ length h → cleared ≡ replicate (length numbers) 0 → Placing h a b t cleared order from 0

@@ -6,14 +6,12 @@ ghost use mathlib.Core.List.{_∷_};
 ghost use Prim.Native.Nat.{ℕ, _≤_, _<_};
 ghost use lib.ListN.{length, getD};
 ghost use Rattle.tables.specs.Tables.{nodesIn, Nodes};
-ghost use Rattle.pressing.specs.Trim.{usesFrom};
 ghost use Rattle.pressing.specs.Order.{rightFirst, place, orderFrom};
 ghost use Rattle.order.specs.Placing.{orderIn, Numbered, Placing};
 use sheet::NodeNo;
 use sheet::Record;
 use tables::clear;
 use tables::node;
-use tables::trim;
 use tables::uses;
 
 // x where premise r has more uses than premise l, and y otherwise.
@@ -89,18 +87,6 @@ pub fn place(
     put_next(n, numbers, order, two)
 }
 
-// 4. "Trim again from the sink's stand-in", and the uses in what is left.
-fn uses_from(heads: &[u64], positives: &[u64], negatives: &[u64], from: NodeNo, counts: &mut [u16])
-    requires { ⌜ Nodes (now heads) (now positives) (now negatives) ⌝ }
-    requires { ⌜ (length (now counts) ≡ length (now heads)) × (from .0 < length (now heads)) ⌝ }
-    ensures { λ _. ⌜ ((m : ℕ) → getD (now (counts .exit)) m 0 ≡ usesFrom (nodesIn (now (heads .entry)) (now (positives .entry)) (now (negatives .entry))) (from .0) m) ⌝ }
-{
-    let mut kept = [0u8; 512];
-    let n = heads.len();
-    trim::trim(heads, positives, negatives, from, &mut kept[..n]);
-    uses::count_uses(heads, positives, negatives, &kept[..n], counts);
-}
-
 // The order from a node, and how many it has.
 pub fn order_from(
     heads: &[u64],
@@ -117,7 +103,7 @@ pub fn order_from(
 {
     let mut counts = [0u16; 512];
     let n = heads.len();
-    uses_from(heads, positives, negatives, from, &mut counts[..n]);
+    uses::uses_from(heads, positives, negatives, from, &mut counts[..n]);
     clear::clear_numbers(numbers);
     place(
         heads,
