@@ -1,11 +1,11 @@
 -- What judging comes to, one law for each way through its code.
 use mathlib.Core.Path.{_≡_, refl, sym, ap, ap₂, _∙_}
-use mathlib.Core.Bool.{true, false}
+use mathlib.Core.Bool.{false}
 use mathlib.Core.List.{List, [], _∷_, _++_}
-use Prim.Native.Nat.{ℕ, zero, suc, _+_, _-_, _*_, _/_, _<_, _≤_}
+use Prim.Native.Nat.{ℕ, suc, _+_, _-_, _*_, _<_, _≤_}
 use native.Mathlib.Omega.{arith}
 use native.Mathlib.Numerals.{add-one}
-use lib.ListN.{length, getD, take, set}
+use lib.ListN.{length, take, set}
 use lib.ListN.{drop as listDrop}
 use Rattle.base.specs.Bytes.{part}
 use lib.Seq.{length-take-le, getD-take, take-all, take-suc-set}
@@ -16,18 +16,13 @@ use Rattle.sheet.specs.declared.Verdict.{Verdict}
 use Rattle.sheet.specs.declared.Verdict.the-variants.{Fine, Refused}
 use Rattle.sheet.specs.Editions.{narrow}
 use Rattle.sheet.specs.Reasons.{andThen}
-use Rattle.sheet.specs.Records.{Node, given, step, Record, node, drop, Reading, reads, unread, clause, nodeAt}
+use Rattle.sheet.specs.Records.{Node, given, step, node, drop, reads, unread, clause, nodeAt}
 use Rattle.sheet.specs.Fields.{reading, recordAt}
 use Rattle.sheet.specs.Checks.{checkEarlier, checkStep, checkGiven}
 use Rattle.sheet.proofs.Fine.{earlier-fine}
-use Rattle.pressing.specs.Judge.{checkNode, Turn, goes, stops, byVerdict, byReading, turn, Judged, proper, bad, judgeFrom, judge}
+use Rattle.pressing.specs.Judge.{checkNode, Turn, goes, stops, byVerdict, byReading, turn, proper, bad, judgeFrom, judge}
 use Rattle.press.specs.Turns.{turnSays, turnStores}
 use Rattle.pressing.proofs.Judged.{judge-more, judge-stops}
-
--- the clause of a record that is a node
-abbrev pub recordClause : Record → Literals
-recordClause (node n) = clause n
-recordClause (drop n) = none
 
 module _ (s : List Node) (next : ℕ) (h : next ≤ length s) where
   clause-earlier : (n : ℕ) → n < next → clause (nodeAt (take next s) n) ≡ clause (nodeAt s n)

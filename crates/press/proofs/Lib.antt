@@ -4,3 +4,5 @@ pub mod Emits
 pub mod Emitting
 pub mod Rooms
 pub mod Cores
+pub mod Wholes
+pub mod Ready

@@ -3,6 +3,7 @@ use mathlib.Core.List.{List}
 use Rattle.clause.specs.Denote.{literalsOf}
 use Rattle.sheet.specs.Reasons.{numberOf}
 use Rattle.sheet.specs.Records.{Node}
+use Rattle.press.specs.declared.Pressed.{Pressed}
 use Rattle.press.specs.declared.PressAnswer.{PressAnswer}
 use Rattle.press.specs.declared.PressAnswer.the-variants.{Accepted, Refused}
 use Rattle.press.specs.declared.judge.Judgement.{Judgement}
@@ -10,8 +11,11 @@ use Rattle.press.specs.declared.judge.Judgement.the-variants as J
 use Rattle.pressing.specs.Judge.{Judged, proper, bad}
 use Rattle.pressing.specs.Press.{Answer, refused, accepted}
 
+abbrev pub reported : Pressed → Answer
+reported r = accepted (literalsOf (r .conclusion)) (r .records) (r .nodes) (r .steps) (r .peak) (r .marked)
+
 unfoldable pub said : PressAnswer → Answer
-said (Accepted r) = accepted (literalsOf (r .conclusion)) (r .records) (r .nodes) (r .steps) (r .peak) (r .marked)
+said (Accepted r) = reported r
 said (Refused why k) = refused (numberOf why) (k .0)
 
 -- a judgement, with the nodes that stand in the tables

@@ -7,7 +7,7 @@ ghost use Prim.Native.Nat.{ℕ};
 ghost use lib.ListN.{length, take};
 ghost use Rattle.clause.specs.Denote.{literalsOf};
 ghost use Rattle.sheet.specs.Editions.{narrow};
-ghost use Rattle.sheet.specs.Records.{step, clause, nodeAt};
+ghost use Rattle.sheet.specs.Records.{step};
 ghost use Rattle.sheet.specs.Fields.{recordAt};
 ghost use Rattle.pressing.specs.Judge.{checkRoom, checkPress, checkNode, turn, judge};
 ghost use Rattle.press.specs.Turns.{turnSays, turnStores};
@@ -51,27 +51,6 @@ pub fn judge_lengths(sheet: usize, rules: usize, room: usize, marks: usize) -> V
     check_room(records, lines, room, marks)
 }
 
-// The clause of an earlier node.
-fn clause_of(heads: &[u64], positives: &[u64], negatives: &[u64], n: NodeNo) -> Clause
-    requires { ⌜ (length (now positives) ≡ length (now heads)) × (length (now negatives) ≡ length (now heads)) × (n .0 < length (now heads)) ⌝ }
-    ensures { λ c. ⌜ literalsOf c ≡ clause (nodeAt (nodesIn (now (heads .entry)) (now (positives .entry)) (now (negatives .entry))) (n .0)) ⌝ }
-{
-    let node = node::node_at(heads, positives, negatives, n);
-    match node {
-        Record::Given { line: _, clause } => clause,
-        Record::Step {
-            pivot: _,
-            left: _,
-            right: _,
-            clause,
-        } => clause,
-        Record::Drop(_) => Clause {
-            positive: clause::Set(0),
-            negative: clause::Set(0),
-        },
-    }
-}
-
 // 9, 11 and 12, of a step after `next` nodes.
 fn check_step(
     heads: &[u64],
@@ -94,8 +73,8 @@ fn check_step(
     let Verdict::Fine = right else {
         return right;
     };
-    let a = clause_of(heads, positives, negatives, l);
-    let b = clause_of(heads, positives, negatives, r);
+    let a = node::clause_at(positives, negatives, l);
+    let b = node::clause_at(positives, negatives, r);
     sheet::checks::check_step(p, a, b, c)
 }
 

@@ -100,7 +100,7 @@ Sizes e sheet rules room marks n = Lengths e (pressRecords e) sheet rules n × R
 record-count : (e : Edition) (sheet n : ℕ) → sheet ≡ recordBytes e * n → sheet / recordBytes e ≡ n
 record-count narrow sheet n q = omega arith
 
-press-fine : (e : Edition) (sheet rules room marks : ℕ) → checkPress e sheet rules room marks ≡ Fine
+pub press-fine : (e : Edition) (sheet rules room marks : ℕ) → checkPress e sheet rules room marks ≡ Fine
     → Sizes e sheet rules room marks (sheet / recordBytes e)
 unfolding checkPress checkRoom
 press-fine e sheet rules room marks q =

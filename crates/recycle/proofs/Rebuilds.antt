@@ -2,17 +2,11 @@
 use Prim.Native.Nat.{ℕ}
 use mathlib.Core.Path.{_≡_}
 use mathlib.Core.List.{List}
-use native.Mathlib.Omega.{arith}
 use lib.ListN.{getD, set}
 use Rattle.clause.specs.Clauses.{Literals, none, resolvent}
 use Rattle.clause.specs.Denote.{literalsOf}
 use Rattle.clause.specs.declared.Clause.{Clause}
-use Rattle.sheet.specs.declared.Record.{Record}
-use Rattle.sheet.specs.declared.Record.the-variants.{Given, Step, Drop}
-use Rattle.sheet.specs.declared.LineNo.{LineNo}
-use Rattle.sheet.specs.declared.NodeNo.{NodeNo}
-use Rattle.sheet.specs.Records.{Node, given, step, node, clause, nodeAt}
-use Rattle.sheet.specs.Denote.{recordOf}
+use Rattle.sheet.specs.Records.{Node, step, clause, nodeAt}
 use Rattle.recycle.specs.declared.reach.Reach.{Reach as CodeReach}
 use Rattle.recycle.specs.declared.reach.Reach.the-variants.{Unreached, Reached}
 use Rattle.recycle.specs.declared.recycle.Cut.{Cut as CodeCut}
@@ -21,22 +15,9 @@ use Rattle.recycle.specs.declared.rebuild.Way.the-variants.{TakeLeft, Ta
 use Rattle.pressing.specs.Recycle.{Reach, unreached, reached, Cut, cutOf, kept, fate, fates}
 use Rattle.pressing.specs.Rebuild.{Built, built, standIn, standing, wayOf, standsFor, newStep, byWay, renew, rebuildTurn}
 use Rattle.recycle.specs.Passes.{reachIn, cutIn, wayIn}
-use Rattle.tables.proofs.Found.{IsGiven, found-step}
+use Rattle.tables.proofs.Found.{IsGiven}
 
--- ---- the clause of a node that is found
-
-module _ (x : Record) (m : Node) (e : recordOf x ≡ node m) where
-  pub clause-given : (line : LineNo) (c : Clause) → x ≡ Given line c → literalsOf c ≡ clause m
-  unfolding recordOf clause
-  clause-given line c q = let f : recordOf (Given line c) ≡ node m = rw q at e in let g : m ≡ given (line .0) (literalsOf c) = cc in rw g
-
-  pub clause-step : (p : ℕ) (l r : NodeNo) (c : Clause) → x ≡ Step p l r c → literalsOf c ≡ clause m
-  unfolding clause
-  clause-step p l r c q = rw (found-step x m p l r c e q)
-
-  pub clause-drop : (n : NodeNo) (c : Literals) → x ≡ Drop n → c ≡ clause m
-  unfolding recordOf
-  clause-drop n c q = let f : recordOf (Drop n) ≡ node m = rw q at e in let z : _≡_ {A = ℕ} 0 1 = cc in absurd (omega arith)
+-- ---- the clause of a node's stand-in
 
 pub clause-standing : (s : List Node) (t : List ℕ) (n m : ℕ) (c : Literals) → m ≡ getD t n 0 → c ≡ clause (nodeAt s m) → c ≡ standing (built s t) n
 unfolding standing standIn

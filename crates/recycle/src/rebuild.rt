@@ -4,8 +4,7 @@ ghost use Prim.Native.Nat.{_<_};
 ghost use lib.ListN.{length, set, getD};
 ghost use Rattle.clause.specs.Clauses.{none, resolvent};
 ghost use Rattle.clause.specs.Denote.{literalsOf};
-ghost use Rattle.sheet.specs.Records.{Node, node, step, clause, nodeAt};
-ghost use Rattle.sheet.specs.Denote.{recordOf};
+ghost use Rattle.sheet.specs.Records.{step, nodeAt};
 ghost use Rattle.pressing.specs.Recycle.{reached, kept, fate, fates};
 ghost use Rattle.pressing.specs.Rebuild.{built, standing, wayOf, newStep, renew, rebuildTurn, rebuild};
 ghost use Rattle.tables.specs.Tables.{nodesIn, reachesIn, Sound, Nodes};
@@ -15,7 +14,6 @@ use crate::reach::Reach;
 use crate::recycle;
 use crate::recycle::Cut;
 use clause::Clause;
-use clause::Set;
 use sheet::NodeNo;
 use sheet::Record;
 use tables::clear;
@@ -50,25 +48,6 @@ fn way_of(cut: Cut, p: u8, l: Clause, r: Clause) -> Way
     }
 }
 
-// The clause of a node's record; a drop has none.
-fn clause_of(r: Record) -> Clause
-    ensures { λ c. ⌜ ((m : Node) → recordOf r ≡ node m → literalsOf c ≡ clause m) ⌝ }
-{
-    match r {
-        Record::Given { line: _, clause } => clause,
-        Record::Step {
-            pivot: _,
-            left: _,
-            right: _,
-            clause,
-        } => clause,
-        Record::Drop(_) => Clause {
-            positive: Set(0),
-            negative: Set(0),
-        },
-    }
-}
-
 fn stand_in(stand_ins: &[u16], n: NodeNo) -> NodeNo
     requires { ⌜ n .0 < length (now «stand_ins») ⌝ }
     ensures { λ r. ⌜ r .0 ≡ getD (now («stand_ins» .entry)) (n .0) 0 ⌝ }
@@ -98,7 +77,7 @@ fn standing(
     ensures { λ c. ⌜ literalsOf c ≡ standing (built (nodesIn (now (heads .entry)) (now (positives .entry)) (now (negatives .entry))) (now («stand_ins» .entry))) (n .0) ⌝ }
 {
     let m = stand_in(stand_ins, n);
-    clause_of(node::node_at(heads, positives, negatives, m))
+    node::clause_at(positives, negatives, m)
 }
 
 fn way_at(

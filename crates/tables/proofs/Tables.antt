@@ -9,7 +9,7 @@ use lib.Dec.{eqb}
 use lib.ListN.{length, getD, set}
 use Rattle.base.proofs.Lists.{zip3-set, zip3-getD, zip3-length}
 use Rattle.clause.specs.Clauses.{literals}
-use Rattle.sheet.specs.Records.{Node, given, step, nodeAt}
+use Rattle.sheet.specs.Records.{Node, given, step, clause, nodeAt}
 use Rattle.tables.specs.Tables.{nodeOf, nodesIn}
 
 pub given-head : (line p q : ℕ) → nodeOf (1 + line * 281474976710656) p q ≡ given line (literals p q)
@@ -45,3 +45,18 @@ module _ (heads positives negatives : List ℕ) where
     pub nodes-at : (i : ℕ) → i < length heads → nodeAt (nodesIn heads positives negatives) i ≡ nodeOf (getD heads i 0) (getD positives i 0) (getD negatives i 0)
     unfolding nodesIn nodeAt
     nodes-at i h = zip3-getD nodeOf heads positives negatives (length heads) refl p q i _ h
+
+-- the clause of a node, whatever stands in its first word
+clause-word : (head p q : ℕ) → clause (nodeOf head p q) ≡ literals p q
+unfolding nodeOf clause
+clause-word head p q = by (eqb (head % 256) 2)
+  where
+    by : (u : Bool)
+        → clause (cond u (step (head / 256 % 256) (head / 65536 % 65536) (head / 4294967296 % 65536) (literals p q)) (given (head / 281474976710656) (literals p q))) ≡ literals p q
+    by true = refl
+    by false = refl
+
+pub clauses-at : (heads positives negatives : List ℕ) (i n : ℕ) → length negatives ≡ length positives → n < length positives → i ≡ n
+    → length heads ≡ length positives → literals (getD positives i 0) (getD negatives i 0) ≡ clause (nodeAt (nodesIn heads positives negatives) n)
+clauses-at heads positives negatives i n m h e l =
+    rw (e, nodes-at heads positives negatives (sym l) (m ∙ sym l) n (omega arith), clause-word)

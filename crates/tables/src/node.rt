@@ -2,10 +2,11 @@
 // out of it here alone.
 ghost use mathlib.Core.Path.{_≡_};
 ghost use Prim.Native.Nat.{ℕ, _/_, _%_, _<_};
+ghost use mathlib.Core.List.{List};
 ghost use lib.ListN.{length, set};
 ghost use Rattle.clause.specs.Clauses.{literals};
 ghost use Rattle.clause.specs.Denote.{literalsOf};
-ghost use Rattle.sheet.specs.Records.{given, step, node, nodeAt};
+ghost use Rattle.sheet.specs.Records.{given, step, node, clause, nodeAt};
 ghost use Rattle.sheet.specs.Denote.{recordOf};
 ghost use Rattle.tables.specs.Tables.{nodeOf, nodesIn};
 use clause::Clause;
@@ -55,6 +56,18 @@ pub fn node_at(heads: &[u64], positives: &[u64], negatives: &[u64], n: NodeNo) -
 {
     let i = base::wide(n.0);
     node_of(heads[i], positives[i], negatives[i])
+}
+
+// The clause of node n of the tables, whatever stands in its first word.
+pub fn clause_at(positives: &[u64], negatives: &[u64], n: NodeNo) -> Clause
+    requires { ⌜ (length (now negatives) ≡ length (now positives)) × (n .0 < length (now positives)) ⌝ }
+    ensures { λ c. ⌜ ((heads : List ℕ) → length heads ≡ length (now (positives .entry)) → literalsOf c ≡ clause (nodeAt (nodesIn heads (now (positives .entry)) (now (negatives .entry))) (n .0))) ⌝ }
+{
+    let i = base::wide(n.0);
+    Clause {
+        positive: Set(positives[i]),
+        negative: Set(negatives[i]),
+    }
 }
 
 fn put_words(

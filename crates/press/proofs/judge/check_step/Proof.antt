@@ -49,15 +49,15 @@ returns-2 c = let l = c .before .before .before in
     λ rules. c .enum-told4 .given .1
     ∙ sym (right-late s (a .next .0) h rules (a .p) (a .l .0) (a .r .0) (literalsOf (a .c)) _ (sym (l .before .before .check-earlier .ensures) ∙ l .enum-told .given .1) (sym (c .before .before .check-earlier2 .ensures) ∙ c .enum-told4 .given .1))
 
-clause-of-requires : tie.Need-clause-of-requires
-clause-of-requires c κs = let l = c .before .before .before in
+clause-at-requires : tie.Need-clause-at-requires
+clause-at-requires c κs = let l = c .before .before .before in
     let st = l .before .before .before .before .before .before in
-    (st .pre .0, st .pre .1, omega (arith, st .pre .2, earlier-fine (st .args .next .0) (st .args .l .0) (sym (l .before .before .check-earlier .ensures) ∙ l .enum-told .given .1)))
+    (st .pre .1 ∙ sym (st .pre .0), omega (arith, st .pre .0, st .pre .2, earlier-fine (st .args .next .0) (st .args .l .0) (sym (l .before .before .check-earlier .ensures) ∙ l .enum-told .given .1)))
 
-clause-of-requires-2 : tie.Need-clause-of-requires-2
-clause-of-requires-2 c κs = let l = c .before .before .before .before in
+clause-at-requires-2 : tie.Need-clause-at-requires-2
+clause-at-requires-2 c κs = let l = c .before .before .before .before in
     let st = l .before .before .before .before .before .before in
-    (st .pre .0, st .pre .1, omega (arith, st .pre .2, earlier-fine (st .args .next .0) (st .args .r .0) (sym (c .before .before .before .check-earlier2 .ensures) ∙ c .before .enum-told3 .given .1)))
+    (st .pre .1 ∙ sym (st .pre .0), omega (arith, st .pre .0, st .pre .2, earlier-fine (st .args .next .0) (st .args .r .0) (sym (c .before .before .before .check-earlier2 .ensures) ∙ c .before .enum-told3 .given .1)))
 
 check-step-requires : tie.Need-check-step-requires
 check-step-requires c κs = search needs
@@ -70,7 +70,7 @@ returns-3 c = let r = c .before .before .before in
     let s = nodesIn (a .heads .now) (a .positives .now) (a .negatives .now) in
     let h : a .next .0 ≤ length s = rw (nodes-length (a .heads .now) (a .positives .now) (a .negatives .now) (st .pre .0) (st .pre .1)) (st .pre .2) in
     λ rules. c .check-step .ensures
-    ∙ ap₂ (λ (x y : Literals). checkStep (a .p) x y (literalsOf (a .c))) (c .before .before .clause-of .ensures) (c .before .clause-of2 .ensures)
+    ∙ ap₂ (λ (x y : Literals). checkStep (a .p) x y (literalsOf (a .c))) (c .before .before .clause-at .ensures (a .heads .now) (sym (st .pre .0))) (c .before .clause-at2 .ensures (a .heads .now) (sym (st .pre .0)))
     ∙ sym (both-early s (a .next .0) h rules (a .p) (a .l .0) (a .r .0) (literalsOf (a .c)) (sym (l .before .before .check-earlier .ensures) ∙ l .enum-told .given .1) (sym (r .before .before .check-earlier2 .ensures) ∙ r .enum-told3 .given .1))
 
 pub check-step-spec : {M : Type 1} → statement M
@@ -85,7 +85,7 @@ check-step-spec =
     enum-told-3
     enum-told-4
     returns-2
-    clause-of-requires
-    clause-of-requires-2
+    clause-at-requires
+    clause-at-requires-2
     check-step-requires
     returns-3)

@@ -7,8 +7,8 @@ use Rattle.tables.specs.Tables.{nodesIn}
 use Rattle.tables.proofs.Tables.{nodes-length}
 use Rattle.press.proofs.Emitting.{Named, named-here, named-later, named-none}
 use borrow.Author.Needs.{needs}
-use Rattle.press.proofs.emit.named_from.Statement.{statement}
-use Rattle.press.proofs.emit.named_from.Tie as tie
+use Rattle.press.proofs.drops.named_from.Statement.{statement}
+use Rattle.press.proofs.drops.named_from.Tie as tie
 
 abbrev Inv-loop : tie.InvT-loop
 Inv-loop heads positives negatives from n m₀ m = Named (n .0) (after m (nodesIn heads positives negatives)) ≡ Named (n .0) (after from (nodesIn heads positives negatives))

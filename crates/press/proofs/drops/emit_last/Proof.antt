@@ -5,8 +5,8 @@ use Rattle.tables.specs.Tables.{nodesIn}
 use Rattle.press.specs.Emission.{emissionOf}
 use Rattle.press.proofs.Rooms.{last-kept, last-dropped, last-room}
 use borrow.Author.Needs.{needs}
-use Rattle.press.proofs.emit.emit_last.Statement.{statement}
-use Rattle.press.proofs.emit.emit_last.Tie as tie
+use Rattle.press.proofs.drops.emit_last.Statement.{statement}
+use Rattle.press.proofs.drops.emit_last.Tie as tie
 
 named-from-requires : tie.Need-named-from-requires
 named-from-requires c κs = search needs

@@ -8,8 +8,8 @@ use Rattle.press.specs.Emission.{Emission, emissionOf, emitRecord, emitA
 use Rattle.tables.proofs.Found.{found-given, found-step}
 use Rattle.press.proofs.Rooms.{turn-room, turn-given, same-room, turn-same, low-room, high-room, turn-two}
 use borrow.Author.Needs.{needs}
-use Rattle.press.proofs.emit.emit_turn.Statement.{statement}
-use Rattle.press.proofs.emit.emit_turn.Tie as tie
+use Rattle.press.proofs.drops.emit_turn.Statement.{statement}
+use Rattle.press.proofs.drops.emit_turn.Tie as tie
 
 node-at-requires : tie.Need-node-at-requires
 node-at-requires c κs = search needs

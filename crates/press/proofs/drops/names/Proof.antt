@@ -1,8 +1,8 @@
 use Rattle.tables.proofs.Found.{found-given, found-step}
 use Rattle.press.proofs.Emitting.{names-given, names-left, names-right}
 use borrow.Author.Needs.{needs}
-use Rattle.press.proofs.emit.names.Statement.{statement}
-use Rattle.press.proofs.emit.names.Tie as tie
+use Rattle.press.proofs.drops.names.Statement.{statement}
+use Rattle.press.proofs.drops.names.Tie as tie
 
 node-at-requires : tie.Need-node-at-requires
 node-at-requires c κs = search needs
