@@ -6,3 +6,4 @@ pub mod Written
 pub mod Marked
 pub mod Replays
 pub mod Press
+pub mod Ships

@@ -23,7 +23,7 @@ use Rattle.demands.proofs.Replays.{press-replays, press-tight, press-le
 
 pub press-unique : PressUnique
 press-unique e sheet rules out marks r₁ r₂ out₁ out₂ marks₁ marks₂ p q =
-    (Unique.press-unique _ r₁ r₂ (p .answer) (q .answer), p .output ∙ sym (q .output), p .marked ∙ sym (q .marked))
+    Unique.press-unique _ r₁ r₂ out₁ out₂ marks₁ marks₂ p q
 
 pub press-accepts-proper : PressAccepts
 press-accepts-proper e sheet rules out marks = (

@@ -12,16 +12,20 @@ use Rattle.sheet.specs.Records.{given, step, Record, node, nodeAt}
 use Rattle.sheet.specs.Fields.{ruleLines, ruleLine}
 use Rattle.sheet.specs.Counts.{nodesOf, stepsOf, peakFrom, firstOver}
 use Rattle.sheet.specs.Proper.{recordIn, conclusionOf, ReadsAs, Proper}
-use Rattle.replay.specs.declared.ReplayAnswer.{ReplayAnswer}
-use Rattle.replay.specs.declared.StepAnswer.{StepAnswer}
+use Rattle.step.specs.declared.Slot.{Slot as LentSlot}
+use Rattle.step.specs.declared.Tally.{Tally as LentTally}
+use Rattle.step.specs.declared.StepAnswer.{StepAnswer}
+use Rattle.step.specs.Said.{tallyOf, rowOf, saidOfStep}
+use Rattle.replay.specs.declared.answer.ReplayAnswer.{ReplayAnswer}
 use Rattle.replaying.specs.Slots.{Slot}
-use Rattle.replaying.specs.Step.{State, oneStep}
+use Rattle.replaying.specs.Step.{state, stepped, oneStep}
 use Rattle.replaying.specs.Replay as Replay
 use Rattle.replay.specs.Said as ReplaySaid
 use Rattle.press.specs.declared.PressAnswer.{PressAnswer}
 use Rattle.pressing.specs.Press as Press
 use Rattle.press.specs.Said as PressSaid
 use Rattle.pressing.specs.Drops as Drops
+use Rattle.demands.specs.Shipping.{tried, ship}
 
 -- every element is a byte, as those of a lent slice are
 abbrev pub Bytes : List ℕ → Type 0
@@ -29,10 +33,8 @@ Bytes b = (i : ℕ) → getD b i 0 < 256
 
 -- ---- "Nothing else would satisfy the promise."
 
-pub record PressPromise (e : Edition) (sheet rules out marks : List ℕ) (r : PressAnswer) (out′ marks′ : List ℕ) : Type 0 where
-  pub answer : PressSaid.said r ≡ Press.press e sheet rules out marks .answer
-  pub output : out′ ≡ Press.press e sheet rules out marks .out
-  pub marked : marks′ ≡ Press.press e sheet rules out marks .marks
+abbrev pub PressPromise : Edition → List ℕ → List ℕ → List ℕ → List ℕ → PressAnswer → List ℕ → List ℕ → Type 0
+PressPromise e sheet rules out marks r out′ marks′ = Press.outcome (PressSaid.said r) out′ marks′ ≡ Press.press e sheet rules out marks
 
 abbrev pub PressUnique : Type 0
 PressUnique =
@@ -41,28 +43,29 @@ PressUnique =
     → PressPromise e sheet rules out marks r₂ out₂ marks₂
     → (r₁ ≡ r₂) × (out₁ ≡ out₂) × (marks₁ ≡ marks₂)
 
-pub record ReplayPromise (e : Edition) (sheet rules : List ℕ) (slots : List Slot) (r : ReplayAnswer) (slots′ : List Slot) : Type 0 where
-  pub answer : ReplaySaid.said r ≡ Replay.replay e sheet rules slots .answer
-  pub row : slots′ ≡ Replay.replay e sheet rules slots .slots
+-- the slots that were lent, as they are in memory
+abbrev pub ReplayPromise : Edition → List ℕ → List ℕ → List LentSlot → ReplayAnswer → List LentSlot → Type 0
+ReplayPromise e sheet rules slots r slots′ = Replay.outcome (ReplaySaid.said r) (rowOf slots′) ≡ Replay.replay e sheet rules (rowOf slots)
 
 abbrev pub ReplayUnique : Type 0
 ReplayUnique =
-    (e : Edition) (sheet rules : List ℕ) (slots : List Slot) (r₁ r₂ : ReplayAnswer) (slots₁ slots₂ : List Slot)
+    (e : Edition) (sheet rules : List ℕ) (slots : List LentSlot) (r₁ r₂ : ReplayAnswer) (slots₁ slots₂ : List LentSlot)
     → ReplayPromise e sheet rules slots r₁ slots₁
     → ReplayPromise e sheet rules slots r₂ slots₂
     → (r₁ ≡ r₂) × (slots₁ ≡ slots₂)
 
 -- one record: the answer, and the tally and every slot after it
-pub record StepPromise (e : Edition) (rules record′ : List ℕ) (k : ℕ) (s : State) (r : StepAnswer) (s′ : State) : Type 0 where
-  pub answer : ReplaySaid.saidOfStep r ≡ oneStep e rules record′ k s .answer
-  pub after : s′ ≡ oneStep e rules record′ k s .state
+abbrev pub StepPromise : Edition → List ℕ → List ℕ → ℕ → LentTally → List LentSlot → StepAnswer → LentTally → List LentSlot → Type 0
+StepPromise e rules bytes k t slots r t′ slots′ =
+    stepped (saidOfStep r) (state (tallyOf t′) (rowOf slots′)) ≡ oneStep e rules bytes k (state (tallyOf t) (rowOf slots))
 
 abbrev pub StepUnique : Type 0
 StepUnique =
-    (e : Edition) (rules record′ : List ℕ) (k : ℕ) (s : State) (r₁ r₂ : StepAnswer) (s₁ s₂ : State)
-    → StepPromise e rules record′ k s r₁ s₁
-    → StepPromise e rules record′ k s r₂ s₂
-    → (r₁ ≡ r₂) × (s₁ ≡ s₂)
+    (e : Edition) (rules bytes : List ℕ) (k : ℕ) (t : LentTally) (slots : List LentSlot) (r₁ r₂ : StepAnswer) (t₁ t₂ : LentTally)
+    (slots₁ slots₂ : List LentSlot)
+    → StepPromise e rules bytes k t slots r₁ t₁ slots₁
+    → StepPromise e rules bytes k t slots r₂ t₂ slots₂
+    → (r₁ ≡ r₂) × (t₁ ≡ t₂) × (slots₁ ≡ slots₂)
 
 -- ---- Demand 2: accepted exactly when proper; and what acceptance means.
 
@@ -221,3 +224,14 @@ PressDemands =
     (e : Edition) (sheet rules out marks : List ℕ) (c : Literals) (records nodes steps peak marked : ℕ)
     → Accepted e sheet rules out marks c records nodes steps peak marked
     → OfPress e sheet rules out marks c records nodes steps peak marked
+
+-- ---- What an office runs before it ships a sheet: the replay accepts exactly when the slots are at least the peak.
+
+abbrev pub Ships : Type 0
+Ships =
+    (e : Edition) (sheet rules out marks : List ℕ) (c : Literals) (records nodes steps peak marked slots : ℕ)
+    → Accepted e sheet rules out marks c records nodes steps peak marked
+    → (peak ≤ slots
+    → ship e sheet rules out marks slots ≡ tried (Press.accepted c records nodes steps peak marked) (Replay.accepted c nodes steps peak))
+    × (slots < peak
+    → (k : ℕ) × (ship e sheet rules out marks slots ≡ tried (Press.accepted c records nodes steps peak marked) (Replay.refused 15 k)))

@@ -1,2 +1,9 @@
-pub mod Rows
+pub mod Answers
+pub mod Cells
+pub mod Going
+pub mod Prims
+pub mod Running
+pub mod Stepping
 pub mod Unique
+pub mod Values
+pub mod Whole

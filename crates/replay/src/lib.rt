@@ -1,126 +1,56 @@
-// The controller's side: checks a sheet while holding only undropped clauses.
+// The controller's side: checks a sheet while holding only undropped clauses, in a lent row of slots.
 ghost use mathlib.Core.Path.{_≡_};
-ghost use lib.ListN.{length};
 ghost use Rattle.sheet.specs.Editions.{narrow};
-ghost use Rattle.replaying.specs.Step.{state, oneStep};
-ghost use Rattle.replaying.specs.Replay.{replay};
-ghost use Rattle.replay.specs.Rows.{rowOf, Even};
-ghost use Rattle.replay.specs.Said.{said, saidOfStep, tallyOf};
-use clause::Clause;
-use sheet::NodeNo;
-use sheet::Reading;
-use sheet::Reason;
+ghost use Rattle.replaying.specs.Step.{state, stepped, oneStep};
+ghost use Rattle.replaying.specs.Replay.{outcome, replay};
+ghost use Rattle.step.specs.Said.{saidOfStep, tallyOf, rowOf};
+ghost use Rattle.replay.specs.Said.{said};
 use sheet::RecordNo;
-use sheet::Verdict;
+use step::Slot;
+use step::Sought;
+use step::StepAnswer;
+use step::Tally;
 
-pub mod check;
+pub mod answer;
+pub mod own;
 pub mod row;
 pub mod run;
 
-// The running tally: the next node's number, the nodes held, the most held so far, the resolution records taken.
-pub struct Tally {
-    pub next: u16,
-    pub held: u16,
-    pub peak: u16,
-    pub steps: u16,
-}
-
-pub struct Replayed {
-    pub conclusion: Clause,
-    pub nodes: u16,
-    pub steps: u16,
-    pub peak: u16,
-}
-
-pub enum ReplayAnswer {
-    Accepted(Replayed),
-    Refused(Reason, RecordNo),
-}
-
-// One record is taken, or refused, or lent with what no replay within its limit has.
-pub enum StepAnswer {
-    Taken,
-    Refused(Reason, RecordNo),
-    Unfit,
-}
-
-// The answer to one record, and the tally after it.
-pub struct Stepped {
-    pub answer: StepAnswer,
-    pub tally: Tally,
-}
-
-// One record: "a refused record changes neither tally nor slots".
+// One record: it is looked up, decided on, put into the row or out of it, and counted.
 pub fn step(
-    used: &mut [u8],
-    nodes: &mut [u16],
-    positives: &mut [u64],
-    negatives: &mut [u64],
-    t: Tally,
+    slots: &mut [Slot],
+    tally: &mut Tally,
     rules: &[u8],
     bytes: &[u8],
     number: RecordNo,
-) -> Stepped
-    requires { ⌜ Even (now used) (now nodes) (now positives) (now negatives) ⌝ }
-    ensures answer { λ r. ⌜ saidOfStep (r .answer) ≡ oneStep narrow (now (rules .entry)) (now (bytes .entry)) (number .0) (state (tallyOf t) (rowOf (now (used .entry)) (now (nodes .entry)) (now (positives .entry)) (now (negatives .entry)))) .answer ⌝ }
-    ensures after { λ r. ⌜ state (tallyOf (r .tally)) (rowOf (now (used .exit)) (now (nodes .exit)) (now (positives .exit)) (now (negatives .exit))) ≡ oneStep narrow (now (rules .entry)) (now (bytes .entry)) (number .0) (state (tallyOf t) (rowOf (now (used .entry)) (now (nodes .entry)) (now (positives .entry)) (now (negatives .entry)))) .state ⌝ }
+) -> StepAnswer
+    ensures { λ r. ⌜ stepped (saidOfStep r) (state (tallyOf (now (tally .exit))) (rowOf (now (slots .exit)))) ≡ oneStep narrow (now (rules .entry)) (now (bytes .entry)) (number .0) (state (tallyOf (now (tally .entry))) (rowOf (now (slots .entry)))) ⌝ }
 {
-    if !check::fits(rules.len(), bytes.len(), t) {
-        return Stepped {
-            answer: StepAnswer::Unfit,
-            tally: t,
-        };
-    }
-    let reading = sheet::read::read_record(bytes, true);
-    let Reading::Reads(r) = reading else {
-        return Stepped {
-            answer: StepAnswer::Refused(sheet::read::why_unread(reading), number),
-            tally: t,
-        };
-    };
-    let next = NodeNo(t.next);
-    let seen = row::see(used, nodes, positives, negatives, check::names_in(r));
-    let verdict = check::check_record(rules, next, seen, r);
-    match verdict {
-        Verdict::Fine => {}
-        Verdict::Refused(why) => {
-            return Stepped {
-                answer: StepAnswer::Refused(why, number),
-                tally: t,
-            };
-        }
-    }
-    row::store(used, nodes, positives, negatives, next, r);
-    Stepped {
-        answer: StepAnswer::Taken,
-        tally: check::counted(t, r),
-    }
+    let names = step::names_read(bytes);
+    let left = row::find(slots, Sought::Node(names.left));
+    let right = row::find(slots, Sought::Node(names.right));
+    let vacant = row::find(slots, Sought::Free);
+    let count = slots.len();
+    let decided = step::decide(*tally, rules, bytes, number, left, right, vacant, count);
+    row::put(slots, decided.at, decided.slot);
+    *tally = decided.tally;
+    decided.answer
 }
 
 // The whole replay: checks 1 to 4, a clear row, record by record, and a clear row again.
-pub fn replay(
-    sheet: &[u8],
-    rules: &[u8],
-    used: &mut [u8],
-    nodes: &mut [u16],
-    positives: &mut [u64],
-    negatives: &mut [u64],
-) -> ReplayAnswer
-    requires { ⌜ Even (now used) (now nodes) (now positives) (now negatives) ⌝ }
-    ensures answer { λ r. ⌜ said r ≡ replay narrow (now (sheet .entry)) (now (rules .entry)) (rowOf (now (used .entry)) (now (nodes .entry)) (now (positives .entry)) (now (negatives .entry))) .answer ⌝ }
-    ensures slots { λ r. ⌜ rowOf (now (used .exit)) (now (nodes .exit)) (now (positives .exit)) (now (negatives .exit)) ≡ replay narrow (now (sheet .entry)) (now (rules .entry)) (rowOf (now (used .entry)) (now (nodes .entry)) (now (positives .entry)) (now (negatives .entry))) .slots ⌝ }
+pub fn replay(sheet: &[u8], rules: &[u8], slots: &mut [Slot]) -> answer::ReplayAnswer
+    ensures { λ r. ⌜ outcome (said r) (rowOf (now (slots .exit))) ≡ replay narrow (now (sheet .entry)) (now (rules .entry)) (rowOf (now (slots .entry))) ⌝ }
 {
     let verdict = sheet::checks::check_lengths(
         sheet::limits::REPLAY_RECORDS,
         sheet.len(),
         rules.len(),
     );
-    match verdict {
-        Verdict::Fine => {}
-        Verdict::Refused(why) => return ReplayAnswer::Refused(why, RecordNo(0)),
+    if answer::passes(verdict) {
+        row::clear(slots);
+        let answer = run::run(sheet, rules, slots);
+        row::clear(slots);
+        return answer;
     }
-    row::clear(used, nodes, positives, negatives);
-    let answer = run::run(sheet, rules, used, nodes, positives, negatives);
-    row::clear(used, nodes, positives, negatives);
-    answer
+    answer::refused(verdict)
 }

@@ -4,3 +4,4 @@ pub mod Runs
 pub mod Mirrors
 pub mod Accepts
 pub mod Sound
+pub mod Plenty

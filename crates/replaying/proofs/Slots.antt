@@ -2,12 +2,12 @@
 use mathlib.Core.Path.{_≡_, refl, sym, ap, ap₂, _∙_}
 use mathlib.Core.Bool.{Bool, true, false, not, _&&_, _||_, cond, or-true, true≢false}
 use mathlib.Core.Logic.{_≢_}
-use mathlib.Core.List.{List, [], _∷_}
+use mathlib.Core.List.{List, [], _∷_, _++_}
 use Prim.Native.Nat.{ℕ, zero, suc, _≤_, _<_, suc-le-suc}
 use native.Mathlib.Nat.{not-suc-le-zero, le-of-suc-le-suc, zero-lt-suc}
 use native.Mathlib.Omega.{arith}
 use lib.Dec.{eqb, ltb, leb·suc-suc}
-use lib.ListN.{length, getD, length-set, length-replicate}
+use lib.ListN.{length, getD, replicate, length-set, length-append, length-replicate, replicate-append-replicate}
 use borrow.Author.Tests.{lt-ltb, eq-eqb, ne-eqb, eqb-true}
 use Rattle.base.proofs.Lists.{cond-both}
 use Rattle.clause.specs.Clauses.{Literals}
@@ -343,3 +343,53 @@ room-release n row e =
 
 pub room-hold : (n : ℕ) (c : Literals) (row : List Slot) → room row ≡ true → room (hold n c row) ≡ ltb (suc (inUse row)) (length row)
 room-hold n c row e = room-when-fewer (hold n c row) ∙ ap₂ ltb (inUse-hold n c row e) (length-hold n c row)
+
+-- ---- a row with others after it
+
+-- what is held in it, where the others are all free
+held-nil : (n : ℕ) → held n [] ≡ false
+unfolding held first
+held-nil n = refl
+
+clause-cleared : (n : ℕ) (row : List Slot) → clauseHeld n (cleared row) ≡ clauseHeld n []
+unfolding cleared clauseHeld
+clause-cleared n [] = refl
+clause-cleared n (x ∷ row) = clause-cons n empty (cleared row) ∙ rw (holding-empty n) (clause-cleared n row)
+
+pub held-more : (n : ℕ) (row others : List Slot) → held n (row ++ cleared others) ≡ held n row
+held-more n [] others = held-cleared n others ∙ sym (held-nil n)
+held-more n (x ∷ row) others = rw (held-cons n x (row ++ cleared others), held-more n row others) (sym (held-cons n x row))
+
+pub clause-more : (n : ℕ) (row others : List Slot) → clauseHeld n (row ++ cleared others) ≡ clauseHeld n row
+clause-more n [] others = clause-cleared n others
+clause-more n (x ∷ row) others = rw (clause-cons n x (row ++ cleared others), clause-more n row others) (sym (clause-cons n x row))
+
+pub cleared-append : (xs ys : List Slot) → cleared (xs ++ ys) ≡ cleared xs ++ cleared ys
+unfolding cleared
+cleared-append xs ys = ap (λ (k : ℕ). replicate k empty) (length-append xs ys) ∙ sym (replicate-append-replicate (length xs) (length ys) empty)
+
+-- where it has room, a node takes the same slot; and so has a drop the same, of a node that is held in it
+pub room-more : (row others : List Slot) → room row ≡ true → room (row ++ others) ≡ true
+unfolding room first
+room-more [] others e = absurd (true≢false (sym e))
+room-more (x ∷ row) others e =
+    either-way (free x)
+    (λ q. rw (room-cons x (row ++ others), q))
+    (λ q. rw (room-cons x (row ++ others), q) (room-more row others (room-later x row q e)))
+
+pub hold-more : (n : ℕ) (c : Literals) (row others : List Slot) → room row ≡ true → hold n c (row ++ others) ≡ hold n c row ++ others
+unfolding room first
+hold-more n c [] others e = absurd (true≢false (sym e))
+hold-more n c (x ∷ row) others e =
+    either-way (free x)
+    (λ q. rw (hold-here n c x row q, hold-here n c x (row ++ others) q))
+    (λ q. rw (hold-later n c x row q, hold-later n c x (row ++ others) q) (ap (λ (l : List Slot). x ∷ l) (hold-more n c row others (room-later x row q e))))
+
+pub release-more : (n : ℕ) (row others : List Slot) → held n row ≡ true → release n (row ++ others) ≡ release n row ++ others
+release-more n [] others e = absurd (true≢false (sym e ∙ held-nil n))
+release-more n (x ∷ row) others e =
+    either-way (holding n x)
+    (λ q. rw (release-here n x row q, release-here n x (row ++ others) q))
+    (λ q.
+    rw (release-later n x row q, release-later n x (row ++ others) q)
+    (ap (λ (l : List Slot). x ∷ l) (release-more n row others (rw (held-cons n x row, q) at e))))

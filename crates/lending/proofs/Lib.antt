@@ -1,0 +1,6 @@
+pub mod Calls
+pub mod Facts
+pub mod Locals
+pub mod Parts
+pub mod Rows
+pub mod Arrays

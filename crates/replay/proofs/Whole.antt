@@ -1,0 +1,50 @@
+-- What the whole replay comes to, in the two ways that it goes.
+use mathlib.Core.Path.{_≡_, refl, sym, ap, _∙_}
+use mathlib.Core.Bool.{true, false}
+use mathlib.Core.List.{List}
+use Prim.Native.Nat.{ℕ, _/_}
+use lib.ListN.{length, replicate, length-replicate}
+use Rattle.sheet.specs.declared.Reason.{Reason}
+use Rattle.sheet.specs.declared.Verdict.{Verdict}
+use Rattle.sheet.specs.declared.Verdict.the-variants.{Fine, Refused}
+use Rattle.sheet.specs.Editions.{narrow, replayRecords}
+use Rattle.sheet.specs.Reasons.{numberOf}
+use Rattle.sheet.specs.Checks.{checkLengths}
+use Rattle.replaying.specs.Slots.{Slot as RowSlot, empty, cleared}
+use Rattle.replaying.specs.Step.{state, tally, passes}
+use Rattle.replaying.specs.Replay.{Answer, refused, run, start, outcome, byLengths, replay}
+use Rattle.step.specs.declared.Slot.{Slot}
+use Rattle.step.specs.Said.{rowOf}
+use Rattle.step.proofs.Rows.{row-length}
+
+pub fine-is : (v : Verdict) → passes v ≡ true → v ≡ Fine
+unfolding passes
+fine-is Fine e = refl
+fine-is (Refused why) e = cc
+
+-- a cleared row is as long as the row was
+pub cleared-length : (ys zs : List Slot) → rowOf zs ≡ cleared (rowOf ys) → length zs ≡ length ys
+unfolding cleared
+cleared-length ys zs e = sym (row-length zs) ∙ ap length e ∙ length-replicate (length (rowOf ys)) empty ∙ row-length ys
+
+cleared-same : (ys zs : List Slot) → length zs ≡ length ys → cleared (rowOf zs) ≡ cleared (rowOf ys)
+unfolding cleared
+cleared-same ys zs e = ap (λ (n : ℕ). replicate n empty) (row-length zs ∙ e ∙ sym (row-length ys))
+
+module _ (sheet rules : List ℕ) where
+  abbrev verdict : Verdict
+  verdict = checkLengths narrow (replayRecords narrow) (length sheet) (length rules)
+
+  pub comes-refused : (row : List RowSlot) (v : Verdict) → v ≡ verdict → passes v ≡ false → (a : Answer) → ((why : Reason) → v ≡ Refused why → a ≡ refused (numberOf why) 0) → outcome a row ≡ replay narrow sheet rules row
+  unfolding passes replay byLengths
+  comes-refused row Fine e fails a so = cc
+  comes-refused row (Refused why) e fails a so = rw (← e, so why refl)
+
+  -- the row is cleared, run through, and cleared again
+  pub comes-fine : (ys zs₁ zs₂ zs₃ : List Slot) (a : Answer) → passes verdict ≡ true → rowOf zs₁ ≡ cleared (rowOf ys)
+      → (a ≡ run narrow rules sheet (length sheet / 24) 0 (state (tally 0 0 0 0) (rowOf zs₁))) × (length zs₂ ≡ length zs₁) → rowOf zs₃ ≡ cleared (rowOf zs₂)
+      → outcome a (rowOf zs₃) ≡ replay narrow sheet rules (rowOf ys)
+  unfolding replay byLengths start
+  comes-fine ys zs₁ zs₂ zs₃ a pass e₁ e₂ e₃ =
+      let last : rowOf zs₃ ≡ cleared (rowOf ys) = e₃ ∙ cleared-same ys zs₂ (e₂ .1 ∙ cleared-length ys zs₁ e₁) in
+      rw (fine-is verdict pass, e₂ .0, e₁, last)

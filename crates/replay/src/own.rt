@@ -1,0 +1,26 @@
+// The replay in a row of its own, for callers with no slots to lend. No replay within its limit holds more than 1,023 nodes, so any
+// larger number of slots answers as 1,023 does (`replay-plenty`), and a row of 1,023 is enough for every number.
+ghost use mathlib.Core.Path.{_≡_};
+ghost use Prim.Native.Nat.{min};
+ghost use lib.ListN.{replicate};
+ghost use Rattle.sheet.specs.Editions.{narrow};
+ghost use Rattle.replaying.specs.Slots.{empty};
+ghost use Rattle.replaying.specs.Replay.{replay};
+ghost use Rattle.replay.specs.Said.{said};
+use crate::answer::ReplayAnswer;
+
+// At most 1,023.
+fn enough(slots: usize) -> usize
+    ensures { λ n. ⌜ n ≡ min slots 1023 ⌝ }
+{
+    if slots < 1023 { slots } else { 1023 }
+}
+
+pub fn replay_in(sheet: &[u8], rules: &[u8], slots: usize) -> ReplayAnswer
+    ensures { λ r. ⌜ said r ≡ replay narrow (now (sheet .entry)) (now (rules .entry)) (replicate slots empty) .answer ⌝ }
+{
+    let none = step::empty();
+    let mut row = [none; 1023];
+    let n = enough(slots);
+    crate::replay(sheet, rules, &mut row[..n])
+}
