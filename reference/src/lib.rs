@@ -17,5 +17,6 @@ pub mod record;
 pub mod refusal;
 pub mod replay;
 pub mod rng;
+pub mod shelf;
 pub mod stats;
 pub mod text;

@@ -1,7 +1,7 @@
-//! `reference cases`, `reference press` and `reference stats`.
+//! `reference cases`, `reference press`, `reference shelf` and `reference stats`.
 
 use reference::cases::{draw, Size};
-use reference::{program, stats, text};
+use reference::{program, shelf, stats, text};
 use std::io::{self, Write};
 use std::path::Path;
 use std::process::ExitCode;
@@ -9,6 +9,7 @@ use std::process::ExitCode;
 const USAGE: &str = "usage:
   reference cases --seed S --count N [--small] [--trace]
   reference press DIR
+  reference shelf DIR
   reference stats --seed S --count N [--small]";
 
 fn main() -> ExitCode {
@@ -16,6 +17,7 @@ fn main() -> ExitCode {
     let words: Vec<&str> = words.iter().map(String::as_str).collect();
     let done = match words.as_slice() {
         ["press", dir] => print(&format!("{}\n", program::run(Path::new(dir)))),
+        ["shelf", dir] => make_shelf(Path::new(dir)),
         ["cases", flags @ ..] => with_drawing(flags, print_cases),
         ["stats", flags @ ..] => with_drawing(flags, print_stats),
         _ => Err(USAGE.to_string()),
@@ -27,6 +29,12 @@ fn main() -> ExitCode {
             ExitCode::FAILURE
         }
     }
+}
+
+fn make_shelf(dir: &Path) -> Result<(), String> {
+    shelf::write(dir).map_err(|error| format!("cannot write: {error}"))?;
+    let listings = [shelf::sheet(), shelf::pressed()].map(|sheet| shelf::listing(&sheet));
+    print(&listings.join("\n"))
 }
 
 struct Drawing {

@@ -1,5 +1,7 @@
 // The bytes of a sheet: three kinds of record, four kinds of number, rule lines, limits, the reasons of refusal, and the checks that
 // press and replay share.
+ghost use mathlib.Core.Path.{_≡_};
+ghost use Rattle.sheet.specs.Reasons.{numberOf};
 use clause::Clause;
 
 pub mod checks;
@@ -63,4 +65,28 @@ pub enum Reason {
 pub enum Verdict {
     Fine,
     Refused(Reason),
+}
+
+// The number that document 01 gives to a reason.
+pub fn number_of(why: Reason) -> u32
+    ensures { λ r. ⌜ r ≡ numberOf why ⌝ }
+{
+    match why {
+        Reason::Ragged => 1,
+        Reason::Empty => 2,
+        Reason::Long => 3,
+        Reason::Table => 4,
+        Reason::Room => 5,
+        Reason::Kind => 6,
+        Reason::NotZero => 7,
+        Reason::Pivot => 8,
+        Reason::NotEarlier => 9,
+        Reason::Dropped => 10,
+        Reason::PivotMissing => 11,
+        Reason::NotResult => 12,
+        Reason::NoLine => 13,
+        Reason::LineDiffers => 14,
+        Reason::Full => 15,
+        Reason::NotHeld => 16,
+    }
 }

@@ -1,0 +1,88 @@
+use mathlib.Core.Path.{sym}
+use native.Mathlib.Omega.{arith}
+use lib.Seq.{length-take-le}
+use Rattle.tempuquile.proofs.Starts.{fits-bytes}
+use borrow.Author.Needs.{needs}
+use Rattle.tempuquile.proofs.answer.Statement.{statement}
+use Rattle.tempuquile.proofs.answer.Tie as tie
+
+slice-aggregate-press-whole : tie.Need-slice-aggregate-press-whole
+slice-aggregate-press-whole c = search needs
+
+slice-aggregate-press-whole-2 : tie.Need-slice-aggregate-press-whole-2
+slice-aggregate-press-whole-2 c = search needs
+
+press-whole-requires : tie.Need-press-whole-requires
+press-whole-requires c κs = search needs
+
+enum-known-answer : tie.Need-enum-known-answer
+enum-known-answer c = search needs
+
+wide-requires : tie.Need-wide-requires
+wide-requires c κs = search needs
+
+mul-end : tie.Need-mul-end
+mul-end c = search needs
+
+slice-aggregate-replace : tie.Need-slice-aggregate-replace
+slice-aggregate-replace c = search needs
+
+slice-aggregate-replace-2 : tie.Need-slice-aggregate-replace-2
+slice-aggregate-replace-2 c = search needs
+
+array-share-prefix-out : tie.Need-array-share-prefix-out
+array-share-prefix-out c = omega (arith, c .before .before .wide .ensures, fits-bytes _ _ _ (c .before .before .before .before .answer .given .1) (c .before .before .before .before .before .before .before .before .press-whole .ensures .1))
+
+slice-aggregate-replace-3 : tie.Need-slice-aggregate-replace-3
+slice-aggregate-replace-3 c = sym (length-take-le _ _ (omega (arith, c .before .before .before .wide .ensures, fits-bytes _ _ _ (c .before .before .before .before .before .answer .given .1) (c .before .before .before .before .before .before .before .before .before .press-whole .ensures .1))))
+
+replace-requires : tie.Need-replace-requires
+replace-requires c κs = search needs
+
+accepted-requires : tie.Need-accepted-requires
+accepted-requires c κs = search needs
+
+slice-aggregate-say : tie.Need-slice-aggregate-say
+slice-aggregate-say c = search needs
+
+say-requires : tie.Need-say-requires
+say-requires c κs = search needs
+
+enum-known-answer-2 : tie.Need-enum-known-answer-2
+enum-known-answer-2 c = search needs
+
+refused-requires : tie.Need-refused-requires
+refused-requires c κs = search needs
+
+returns : tie.Need-returns
+returns c = search needs
+
+returns-2 : tie.Need-returns-2
+returns-2 c = search needs
+
+returns-3 : tie.Need-returns-3
+returns-3 c = search needs
+
+pub answer-spec : {M : Type 1} → statement M
+answer-spec =
+    tie.close
+    (tie.spec
+    slice-aggregate-press-whole
+    slice-aggregate-press-whole-2
+    press-whole-requires
+    enum-known-answer
+    wide-requires
+    mul-end
+    slice-aggregate-replace
+    slice-aggregate-replace-2
+    array-share-prefix-out
+    slice-aggregate-replace-3
+    replace-requires
+    accepted-requires
+    slice-aggregate-say
+    say-requires
+    enum-known-answer-2
+    refused-requires
+    returns
+    returns-2
+    returns-3)

@@ -1,0 +1,16 @@
+-- A file and the start of it that is at hand.
+use Prim.Native.Nat.{ℕ, _*_, _≤_}
+use mathlib.Core.Path.{_≡_}
+use mathlib.Core.List.{List}
+use lib.ListN.{length, take}
+use Rattle.press.specs.declared.PressAnswer.{PressAnswer}
+use Rattle.press.specs.declared.PressAnswer.the-variants.{Accepted, Refused}
+
+-- s is a file of so many bytes, all of them at the start of the buffer if they fit
+abbrev pub Starts : List ℕ → ℕ → List ℕ → Type 0
+Starts s n buffer = (length s ≡ n) × (n ≤ length buffer → s ≡ take n buffer)
+
+-- the records of an accepted answer stand in so many bytes of output
+abbrev pub Fits : ℕ → PressAnswer → Type 0
+Fits room (Accepted p) = 24 * p .records ≤ room
+Fits room (Refused why k) = Unit {0}

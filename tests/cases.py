@@ -1,0 +1,298 @@
+"""The cases of program.py."""
+import errno, os, struct, subprocess, threading, time
+
+from harness import FOLDER, PART, Link, can_fail, failing, file_limit, no_output
+
+OLD = b"old" * 167  # 501 bytes, longer than what is written over it here
+
+
+# ---- sheets and rule tables
+
+
+def sets(words):
+    """The two sets of a clause in words, as '+0 -3'."""
+    positive = sum(1 << int(w[1:]) for w in words.split() if w[0] == "+")
+    negative = sum(1 << int(w[1:]) for w in words.split() if w[0] == "-")
+    return struct.pack("<QQ", positive, negative)
+
+
+def given(line, words, kind=1, zeros=(0, 0, 0)):
+    return struct.pack("<BBHHH", kind, *zeros, line) + sets(words)
+
+
+def step(pivot, left, right, words, zero=0):
+    return struct.pack("<BBHHH", 2, pivot, left, right, zero) + sets(words)
+
+
+def drop(node):
+    return struct.pack("<BBH", 3, 0, node) + bytes(20)
+
+
+def table(*lines):
+    return b"".join(sets(line) for line in lines)
+
+
+RULES = table("+0", "-0")
+GIVENS = given(0, "+0") + given(1, "-0")
+PAIR = GIVENS + step(0, 0, 1, "")
+PAIR_OK = "ok records 5 nodes 3 steps 1 peak 3 core 2"
+PAIR_OUT = PAIR + drop(0) + drop(1)
+
+
+def chain(records):
+    """Given {+0,-0}, then each step names the node before it on both sides: the placing goes as deep as there are records, every node is
+    kept, and each is dropped at once."""
+    return given(0, "+0 -0") + b"".join(step(0, n, n, "+0 -0") for n in range(records - 1))
+
+
+def chain_out(records):
+    nodes = [chain(records)[24 * n : 24 * n + 24] for n in range(records)]
+    return nodes[0] + b"".join(node + drop(n) for n, node in enumerate(nodes[1:]))
+
+
+def pair_of(v):
+    return {"rules.bin": table(f"+{v}", f"-{v}"), "sheet.bin": given(0, f"+{v}") + given(1, f"-{v}") + step(v, 0, 1, "")}
+
+
+def files(sheet=PAIR, rules=RULES, **more):
+    named = {"rules.bin": rules, "sheet.bin": sheet, "pressed.bin": more.get("pressed"), PART: more.get("part")}
+    return {name: what for name, what in named.items() if what is not None}
+
+
+# ---- what is pressed
+
+
+def accepted(t):
+    t.answers("pair", files(), PAIR_OK, PAIR_OUT)
+    t.answers("lone", files(given(0, "+0"), table("+0")), "ok records 1 nodes 1 steps 0 peak 1 core 1", given(0, "+0"))
+    irregular = [given(0, "+0 +1"), given(1, "-0 +2"), step(0, 0, 1, "+1 +2"), given(2, "+0 -1"), step(1, 2, 3, "+0 +2")]
+    irregular += [given(3, "-0"), step(0, 4, 5, "+2"), given(4, "-2"), step(2, 6, 7, "")]
+    out = [given(0, "+0 +1"), given(2, "+0 -1"), step(1, 0, 1, "+0"), drop(0), drop(1), given(3, "-0"), step(0, 2, 3, ""), drop(2), drop(3)]
+    rules = table("+0 +1", "-0 +2", "+0 -1", "-0", "-2")
+    t.answers("irregular", files(b"".join(irregular), rules), "ok records 9 nodes 5 steps 2 peak 3 core 3", b"".join(out))
+    both = given(0, "+0 -0") + step(0, 0, 0, "+0 -0")
+    t.answers("twice", files(both, table("+0 -0")), "ok records 3 nodes 2 steps 1 peak 2 core 1", both + drop(0))
+    idle = files(GIVENS + given(0, "+0") + step(0, 0, 1, ""))
+    t.answers("idle", idle, PAIR_OK, PAIR_OUT)
+    last = pair_of(63)
+    t.answers("pair on variable 63", last, PAIR_OK, last["sheet.bin"] + drop(0) + drop(1))
+    last_line = files(given(1023, "+5"), bytes(1023 * 16) + sets("+5"))
+    t.answers("the last of 1,024 lines", last_line, "ok records 1 nodes 1 steps 0 peak 1 core 1", given(1023, "+5"))
+    t.answers("an older, longer pressed.bin keeps no tail", files(pressed=OLD), PAIR_OK, PAIR_OUT)
+    t.answers("an older, shorter pressed.bin", files(pressed=b"o"), PAIR_OK, PAIR_OUT)
+    t.answers("a pressed.bin that can be written and not read", files(pressed=OLD), PAIR_OK, PAIR_OUT, modes=[("pressed.bin", 0o200)])
+    t.answers("a part left by an earlier run", files(part=OLD), PAIR_OK, PAIR_OUT)
+    t.answers("a part that cannot be written", files(part=OLD), PAIR_OK, PAIR_OUT, modes=[(PART, 0o444)])
+    t.answers("a part that leads nowhere", files(part=Link("nowhere/at/all")), PAIR_OK, PAIR_OUT)
+    t.answers("a pressed.bin that leads nowhere", files(pressed=Link("nowhere/at/all")), PAIR_OK, PAIR_OUT)
+    t.answers("rules.bin and sheet.bin can only be read", files(), PAIR_OK, PAIR_OUT, modes=[("rules.bin", 0o400), ("sheet.bin", 0o400)])
+    linked(t)
+    in_pieces(t)
+    with t.folder(files()) as place:
+        subprocess.run(t.words, cwd=place, preexec_fn=no_output, stderr=subprocess.DEVNULL)
+        t.check("standard output closed", ("pressed.bin", (place / "pressed.bin").read_bytes(), PAIR_OUT))
+
+
+def linked(t):
+    """A link in the place of pressed.bin, or of the part, is replaced, and what it leads to stays as it is."""
+    for name in ["pressed.bin", PART]:
+        with t.folder({**files(), "other": OLD, name: Link("other")}) as place:
+            t.check(
+                f"{name} is a link",
+                ("the line", t.run(place), PAIR_OK + "\n"),
+                ("pressed.bin", (place / "pressed.bin").read_bytes(), PAIR_OUT),
+                ("what it led to", (place / "other").read_bytes(), OLD),
+                ("the folder", sorted(os.listdir(place)), ["other", "pressed.bin", "rules.bin", "sheet.bin"]),
+            )
+
+
+def in_pieces(t):
+    """Named pipes, fed a few bytes at a time: a read brings less than it asks for, and the file is not at its end."""
+
+    def feed(path, data, size):
+        with open(path, "wb", buffering=0) as pipe:
+            for at in range(0, len(data), size):
+                pipe.write(data[at : at + size])
+                time.sleep(0.002)
+
+    long = given(0, "+0") * 600
+    for name, sheet, line in [("pair", PAIR, PAIR_OK), ("600 records", long, "refused 3"), ("600 records less a byte", long[:-1], "refused 1")]:
+        with t.folder({}) as place:
+            feeders = []
+            for file, data, size in [("rules.bin", RULES, 5), ("sheet.bin", sheet, max(7, len(sheet) // 40))]:
+                os.mkfifo(place / file)
+                feeders.append(threading.Thread(target=feed, args=(place / file, data, size), daemon=True))
+            for feeder in feeders:
+                feeder.start()
+            t.check(f"{name}, in pieces", ("the line", t.run(place), line + "\n"))
+            for feeder in feeders:
+                feeder.join(5)
+
+
+# ---- what is refused: 1 to 9 and 11 to 14, but 5, which needs buffers that the program does not have
+
+
+def refused(t):
+    def case(name, line, sheet=PAIR, rules=RULES):
+        t.answers(name, files(sheet, rules), line)
+        t.answers(f"{name}, over a pressed.bin", files(sheet, rules, pressed=OLD), line)
+
+    case("a byte too many", "refused 1", PAIR + b"\0")
+    case("a byte", "refused 1", b"\1")
+    case("ragged, and the table too", "refused 1", PAIR[:-1], RULES[:-1])
+    case("an empty sheet", "refused 2", b"")
+    case("an empty sheet and a ragged table", "refused 2", b"", RULES[:-1])
+    case("513 records", "refused 3", given(0, "+0") * 513)
+    case("513 records and a ragged table", "refused 3", given(0, "+0") * 513, RULES[:-1])
+    case("a ragged table", "refused 4", rules=RULES[:-1])
+    case("1,025 lines", "refused 4", rules=RULES + bytes(1023 * 16))
+    case("512 records and 1,025 lines", "refused 4", given(0, "+0") * 512, RULES + bytes(1023 * 16))
+    case("kind 0", "refused 6 at 2", GIVENS + bytes(24))
+    case("kind 4", "refused 6 at 1", given(0, "+0") + given(0, "+0", kind=4))
+    case("a drop", "refused 6 at 0", drop(0) + PAIR)
+    case("a malformed drop", "refused 6 at 3", PAIR + drop(0)[:-1] + b"\1")
+    for at in range(1, 6):
+        case(f"byte {at} of a given record", "refused 7 at 0", PAIR[:at] + b"\1" + PAIR[at + 1 :])
+    case("byte 6 of a step", "refused 7 at 2", GIVENS + step(0, 0, 1, "", zero=1))
+    case("byte 7 of a step", "refused 7 at 2", GIVENS + step(64, 9, 9, "", zero=256))
+    case("pivot 64", "refused 8 at 2", GIVENS + step(64, 0, 1, ""))
+    case("pivot 255", "refused 8 at 2", GIVENS + step(255, 9, 1, ""))
+    case("forward", "refused 9 at 2", GIVENS + step(0, 2, 1, ""))
+    case("forward on the right", "refused 9 at 2", GIVENS + step(1, 0, 65535, ""))
+    case("the first record names itself", "refused 9 at 0", step(0, 0, 0, "") + PAIR)
+    case("+p missing on the left", "refused 11 at 2", GIVENS + step(0, 1, 1, ""))
+    case("-p missing on the right", "refused 11 at 2", GIVENS + step(0, 0, 0, "+7"))
+    case("a clause that is not the result", "refused 12 at 2", GIVENS + step(0, 0, 1, "+0"))
+    case("a line beyond the table", "refused 13 at 1", given(0, "+0") + given(2, "-0"))
+    case("an empty table", "refused 13 at 0", rules=b"")
+    case("another clause than the line's", "refused 14 at 1", given(0, "+0") + given(1, "+0"))
+    case("the first bad record answers", "refused 14 at 0", given(1, "+0") + bytes(24))
+    case("pair's own output", "refused 6 at 3", PAIR_OUT)
+
+
+# ---- lengths
+
+
+def lengths(t):
+    ok = "ok records 1 nodes 1 steps 0 peak 1 core 1"
+    t.answers("512 records", files(given(0, "+0") * 512), ok, given(0, "+0"))
+    deep = files(chain(512), table("+0 -0")), "ok records 1023 nodes 512 steps 511 peak 2 core 1", chain_out(512)
+    t.answers("512 records, placed 512 deep", *deep)
+    t.answers("512 records, placed 512 deep, over a longer file", {**deep[0], "pressed.bin": bytes(30000)}, *deep[1:])
+    t.answers("1,024 lines", files(PAIR, RULES + bytes(1022 * 16)), PAIR_OK, PAIR_OUT)
+    most = 100 * 1024 * 1024
+    t.answers("100 MB, not a multiple of 24", files(most), "refused 1")
+    t.answers("100 MB, a multiple of 24", files(most - most % 24), "refused 3")
+    t.answers("100 MB of sheet and of rules", files(most - most % 24, most), "refused 3")
+    t.answers("100 MB of rules, a multiple of 16", files(PAIR, most), "refused 4")
+    t.answers("100 MB of rules and a byte", files(PAIR, most + 1), "refused 4")
+    t.answers("100 MB of rules, no sheet", files(b"", most), "refused 2")
+    # what is read past the buffers is read in pieces of 65,536 bytes
+    for records in [513, 514, 1023, 1024, 3242, 3243, 3244]:
+        t.answers(f"{records} records", files(24 * records), "refused 3")
+        t.answers(f"{records} records and a byte", files(24 * records + 1), "refused 1")
+    for lines in [1025, 1026, 5119, 5120, 5121]:
+        t.answers(f"{lines} lines", files(rules=16 * lines), "refused 4")
+        t.answers(f"{lines} lines less a byte", files(rules=16 * lines - 1), "refused 4")
+
+
+# ---- what cannot be read
+
+
+def unreadable(t):
+    def case(name, line, what, **more):
+        t.answers(name, what, line, **more)
+        t.answers(f"{name}, over a pressed.bin", {**what, "pressed.bin": OLD}, line, **more)
+
+    no_rules, no_sheet = "unreadable rules.bin", "unreadable sheet.bin"
+    case("no files", no_rules, {})
+    case("no rules.bin", no_rules, {"sheet.bin": PAIR})
+    case("no rules.bin and a sheet that would be refused", no_rules, {"sheet.bin": b"\1"})
+    case("no sheet.bin", no_sheet, {"rules.bin": RULES})
+    case("no sheet.bin and a table that would be refused", no_sheet, {"rules.bin": b"\1"})
+    case("no sheet.bin and a table of 100 MB", no_sheet, {"rules.bin": 100 * 1024 * 1024})
+    case("a folder for rules.bin", no_rules, {"rules.bin": FOLDER, "sheet.bin": PAIR})
+    case("a folder for sheet.bin", no_sheet, {"rules.bin": RULES, "sheet.bin": FOLDER})
+    case("folders for both", no_rules, {"rules.bin": FOLDER, "sheet.bin": FOLDER})
+    case("rules.bin leads nowhere", no_rules, {"rules.bin": Link("nowhere"), "sheet.bin": PAIR})
+    case("sheet.bin leads to itself", no_sheet, {"rules.bin": RULES, "sheet.bin": Link("sheet.bin")})
+    case("rules.bin without permission", no_rules, files(), modes=[("rules.bin", 0)])
+    case("sheet.bin without permission", no_sheet, files(), modes=[("sheet.bin", 0o200)])
+    case("both without permission", no_rules, files(), modes=[("rules.bin", 0), ("sheet.bin", 0)])
+    if not can_fail():
+        print("not run: reads that fail half way (the system takes no filter of calls)")
+        return
+    # a read asks for what is left of the buffer, so the second read of a short file is known by its size
+    case("rules.bin fails half way", no_rules, files(), before=failing("read", errno.EIO, 16384 - len(RULES)))
+    case("sheet.bin fails half way", no_sheet, files(), before=failing("read", errno.EIO, 12288 - len(PAIR)))
+    case("a long sheet.bin fails half way", no_sheet, files(24 * 600), before=failing("read", errno.EIO, 65536))
+    case("a long rules.bin fails half way", no_rules, files(rules=16 * 2000), before=failing("read", errno.EIO, 65536))
+    case("both fail half way", no_rules, files(24 * 600, 16 * 2000), before=failing("read", errno.EIO, 65536))
+
+
+# ---- what cannot be written
+
+
+def unwritable(t, disk):
+    line = "unwritable pressed.bin"
+
+    def case(name, what, **more):
+        t.answers(name, what, line, **more)
+
+    def both(name, **more):
+        case(name, files(), **more)
+        case(f"{name}, over a pressed.bin", files(pressed=OLD), **more)
+
+    case("a pressed.bin that can only be read", files(pressed=OLD), modes=[("pressed.bin", 0o444)])
+    case("a pressed.bin without permission", files(pressed=OLD), modes=[("pressed.bin", 0)])
+    case("a folder for pressed.bin", files(pressed=FOLDER))
+    case("a device for pressed.bin", files(pressed=Link("/dev/full")))
+    case("a pressed.bin that leads to itself", files(pressed=Link("pressed.bin")))
+    case("a folder for the part", files(part=FOLDER))
+    case("a folder for the part, over a pressed.bin", files(pressed=OLD, part=FOLDER))
+    both("a folder that cannot be written", folder_mode=0o555)
+    # The disk is full at some byte of the part: the first, some in the middle, the last.
+    for most in [0, 1, 48, 119]:
+        both(f"no room after {most} bytes", before=file_limit(most))
+    t.answers("room for all bytes", files(pressed=OLD), PAIR_OK, PAIR_OUT, before=file_limit(len(PAIR_OUT)))
+    deep = files(chain(512), table("+0 -0"), pressed=OLD)
+    case("no room for the last of 1,023 records", deep, before=file_limit(1023 * 24 - 1))
+    if disk:
+        # a page each for rules.bin, sheet.bin and pressed.bin, and none for the part
+        case("a full disk, over a pressed.bin", files(pressed=OLD), at=disk)
+        t.answers("a disk with a page left", files(), PAIR_OK, PAIR_OUT, at=disk)
+    else:
+        print("not run: a full disk of its own (only root may mount one); a limit on the size of files stands in for it")
+    if not can_fail():
+        print("not run: calls that fail (the system takes no filter of calls)")
+        return
+    both("a write fails", before=failing("write", errno.ENOSPC, len(PAIR_OUT)))
+    both("fsync fails", before=failing("fsync", errno.EIO))
+    both("rename fails", before=failing("rename", errno.EIO))
+
+
+def run_all(t, disk):
+    for group in [accepted, refused, lengths, unreadable]:
+        group(t)
+    unwritable(t, disk)
+
+
+# ---- the second program
+
+
+def draw(t, seed, count):
+    """The sheets and rule tables of random cases, those for the replay too: most of their drops are refused by 6."""
+    words = [t.reference, "cases", "--seed", str(seed), "--count", str(count)]
+    blocks = subprocess.run(words, check=True, capture_output=True, text=True).stdout.strip().split("\n\n")
+    return [[bytes.fromhex(w) if w != "-" else b"" for w in block.split("\n")[0].split()[1:3]] for block in blocks]
+
+
+def compare(t, seed, count):
+    ok = 0
+    for number, (sheet, rules) in enumerate(draw(t, seed, count)):
+        with t.folder({"rules.bin": rules, "sheet.bin": sheet, "pressed.bin": OLD}) as theirs:
+            line = subprocess.run([t.reference, "press", str(theirs)], check=True, capture_output=True, text=True).stdout.rstrip("\n")
+            pressed = (theirs / "pressed.bin").read_bytes()
+        ok += line.startswith("ok")
+        t.answers(f"seed {seed}, case {number}", files(sheet, rules, pressed=OLD), line, pressed if line.startswith("ok") else None)
+    print(f"{count} cases of the second program at seed {seed}: {ok} accepted, {count - ok} refused")
