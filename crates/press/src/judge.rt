@@ -87,10 +87,8 @@ fn judge_turn(
     negatives: &mut [u64],
     k: NodeNo,
 ) -> Verdict
-    requires { ⌜ (length (now positives) ≡ length (now heads)) × (length (now negatives) ≡ length (now heads)) × (k .0 < length (now heads)) ⌝ }
-    requires { ⌜ 24 ≤ length (now bytes) ⌝ }
-    ensures says { λ v. ⌜ v ≡ turnSays (turn narrow (now (rules .entry)) (now (bytes .entry)) (take (k .0) (nodesIn (now (heads .entry)) (now (positives .entry)) (now (negatives .entry))))) ⌝ }
-    ensures stores { λ v. ⌜ nodesIn (now (heads .exit)) (now (positives .exit)) (now (negatives .exit)) ≡ turnStores (k .0) (turn narrow (now (rules .entry)) (now (bytes .entry)) (take (k .0) (nodesIn (now (heads .entry)) (now (positives .entry)) (now (negatives .entry))))) (nodesIn (now (heads .entry)) (now (positives .entry)) (now (negatives .entry))) ⌝ }
+    requires { ⌜ (length (now positives) ≡ length (now heads)) × (length (now negatives) ≡ length (now heads)) × (k .0 < length (now heads)) × (24 ≤ length (now bytes)) ⌝ }
+    ensures { λ v. ⌜ (v ≡ turnSays (turn narrow (now (rules .entry)) (now (bytes .entry)) (take (k .0) (nodesIn (now (heads .entry)) (now (positives .entry)) (now (negatives .entry)))))) × (nodesIn (now (heads .exit)) (now (positives .exit)) (now (negatives .exit)) ≡ turnStores (k .0) (turn narrow (now (rules .entry)) (now (bytes .entry)) (take (k .0) (nodesIn (now (heads .entry)) (now (positives .entry)) (now (negatives .entry))))) (nodesIn (now (heads .entry)) (now (positives .entry)) (now (negatives .entry)))) ⌝ }
 {
     let reading = sheet::read::read_record(bytes, false);
     let Reading::Reads(record) = reading else {

@@ -66,10 +66,10 @@ seen-is slots ns l r f n e p q s = simp (p, q, s, ← e)
 -- ---- a record that is taken
 
 module _ (t u : Tally) (slots : List Slot) (at : ℕ) (r : Record) (tally : u ≡ counted t r) where
-  pub holds : (n : Node) → r ≡ node n → at ≡ search free slots .at
-      → stepped taken (state u (set slots at (slot 1 (t .next) (clause n)))) ≡ stepped taken (after (state t slots) r)
+  pub holds : (n : Node) (s : Slot) → r ≡ node n → at ≡ search free slots .at → s ≡ slot 1 (t .next) (clause n)
+      → stepped taken (state u (set slots at s)) ≡ stepped taken (after (state t slots) r)
   unfolding after stored hold search
-  holds n e q = rw (tally, q, e)
+  holds n s e q z = rw (tally, q, z, e)
 
   pub releases : (n : ℕ) (s : Slot) → r ≡ drop n → at ≡ search (holding (namesIn r .left)) slots .at → s ≡ empty
       → stepped taken (state u (set slots at s)) ≡ stepped taken (after (state t slots) r)

@@ -5,7 +5,8 @@ ghost use mathlib.Core.List.{List};
 ghost use Prim.Native.Nat.{_<_, _≤_};
 ghost use lib.ListN.{length, set};
 ghost use Rattle.sheet.specs.Editions.{narrow};
-ghost use Rattle.replaying.specs.Slots.{Slot as RowSlot, free, holding, empty};
+ghost use Rattle.clause.specs.Denote.{literalsOf};
+ghost use Rattle.replaying.specs.Slots.{slot, Slot as RowSlot, free, holding, empty};
 ghost use Rattle.sheet.specs.Denote.{recordOf};
 ghost use Rattle.replaying.specs.Step.{Names as Named, namesIn, seenOf, after, state, stepped, taken, oneStep};
 ghost use Rattle.step.specs.Search.{search, namesRead};
@@ -122,6 +123,17 @@ fn unchanged(answer: StepAnswer, t: Tally, count: usize) -> Decided
     }
 }
 
+// A slot in use.
+fn slot_of(node: NodeNo, clause: Clause) -> Slot
+    ensures { λ s. ⌜ slotOf s ≡ slot 1 (node .0) (literalsOf clause) ⌝ }
+{
+    Slot {
+        used: 1,
+        node,
+        clause,
+    }
+}
+
 // "A node takes the lowest free slot, and a drop zeroes its slot."
 fn take_record(t: Tally, r: Record, left: SlotNo, vacant: SlotNo) -> Decided
     requires { ⌜ (t .next < 1023) × (t .held ≤ t .next) × (t .steps ≤ t .next) ⌝ }
@@ -135,11 +147,7 @@ fn take_record(t: Tally, r: Record, left: SlotNo, vacant: SlotNo) -> Decided
             answer,
             tally,
             at: vacant,
-            slot: Slot {
-                used: 1,
-                node,
-                clause,
-            },
+            slot: slot_of(node, clause),
         },
         Record::Step {
             pivot: _,
@@ -150,11 +158,7 @@ fn take_record(t: Tally, r: Record, left: SlotNo, vacant: SlotNo) -> Decided
             answer,
             tally,
             at: vacant,
-            slot: Slot {
-                used: 1,
-                node,
-                clause,
-            },
+            slot: slot_of(node, clause),
         },
         Record::Drop(_) => Decided {
             answer,

@@ -48,7 +48,9 @@ judge-turn-requires c κs = let l = c .before .before .before .before .before .b
     let st = l .before .before .before .before .before .before in
     let w = c .before .before .before .before in
     let size : 24 * w .wide2 .result + 24 - 24 * w .wide2 .result ≡ 24 = omega arith in (
-      (inv .3 ∙ sym (inv .2), inv .4 ∙ sym (inv .2), omega (arith, inv .2, w .before .if1 .taken, w .before .before .wide .ensures)),
+      inv .3 ∙ sym (inv .2),
+      inv .4 ∙ sym (inv .2),
+      omega (arith, inv .2, w .before .if1 .taken, w .before .before .wide .ensures),
       rw (length-take, length-drop) (omega (arith, st .pre .1, w .before .if1 .taken, w .before .before .wide .ensures, w .wide2 .ensures)),
     )
 
