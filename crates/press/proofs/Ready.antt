@@ -24,7 +24,7 @@ use Rattle.pressing.proofs.Proper.{ProperNode, AllProper, Kept}
 use Rattle.pressing.proofs.Nodes.{proper-falling}
 use Rattle.pressing.proofs.Judged.{judged-proper}
 use Rattle.pressing.proofs.Rebuilt.{Rebuilding, rebuilt}
-use Rattle.recycle.proofs.Sounds.{AllSound, sound-falling}
+use Rattle.rebuild.proofs.Sounds.{AllSound, sound-falling}
 use Rattle.pressing.proofs.Drops.{length-withDrops-most}
 use Rattle.pressing.proofs.Kept.{pressed-kept}
 use Rattle.pressing.proofs.Accepts.{Sizes, press-fine}

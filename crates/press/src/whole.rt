@@ -18,7 +18,7 @@ use crate::judge;
 use crate::judge::Judgement;
 use crate::marks;
 use order::lay;
-use recycle::pivots;
+use rebuild::pivots;
 use sheet::NodeNo;
 use tables::node;
 

@@ -7,7 +7,7 @@ use Rattle.sheet.specs.Editions.{narrow}
 use Rattle.sheet.specs.Records.{Node}
 use Rattle.pressing.specs.Press.{emit}
 use Rattle.tables.proofs.Lent.{lent-long}
-use Rattle.recycle.proofs.Sounds.{recycled-sound}
+use Rattle.rebuild.proofs.Sounds.{recycled-sound}
 use Rattle.press.specs.Marking.{Emittable}
 use Rattle.press.proofs.Ready.{from-below, from-pressed}
 use borrow.Author.Needs.{needs}
