@@ -20,9 +20,9 @@ use Rattle.tables.specs.Tables.{nodesIn, Nodes}
 use Rattle.tables.proofs.Tables.{nodes-length}
 use Rattle.order.proofs.Arranged.{nodes-take, arranged-fits, arranged-nodes}
 use Rattle.order.proofs.Arranging.{front-long}
-use Rattle.press.specs.Emission.{Emission, emission, emitAll}
-use Rattle.press.specs.Marking.{Emittable}
-use Rattle.press.proofs.Emits.{emits, records-grow, steps-grow, peak-grows}
+use Rattle.emit.specs.Emission.{Emission, emission, emitAll}
+use Rattle.emit.specs.Marking.{Emittable}
+use Rattle.emit.proofs.Emits.{emits, records-grow, steps-grow, peak-grows}
 
 -- ---- all records, from nothing
 

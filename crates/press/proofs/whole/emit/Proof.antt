@@ -2,7 +2,7 @@ use Rattle.press.proofs.Wholes.{all-emitted, some-node, last-concludes,
 use mathlib.Core.Path.{sym}
 use native.Mathlib.Omega.{arith}
 use Rattle.tables.specs.Tables.{nodesIn}
-use Rattle.press.specs.Emission.{emissionOf}
+use Rattle.emit.specs.Emission.{emissionOf}
 use borrow.Author.Needs.{needs}
 use Rattle.press.proofs.whole.emit.Statement.{statement}
 use Rattle.press.proofs.whole.emit.Tie as tie

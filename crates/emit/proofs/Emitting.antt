@@ -1,0 +1,100 @@
+-- One law for each way through the emitting pass.
+use mathlib.Core.Path.{_≡_, refl, sym, ap, ap₂, _∙_}
+use mathlib.Core.Bool.{Bool, true, false, not, cond, true≢false}
+use mathlib.Core.List.{List, [], _∷_, _++_, append-nil}
+use Prim.Native.Nat.{ℕ, zero, suc, _+_, _-_, _*_, _<_, _≤_, min, max}
+use native.Mathlib.Omega.{arith}
+use native.Mathlib.Numerals.{add-one}
+use borrow.Author.Tests.{eq-eqb, ne-eqb, eqb-true}
+use lib.Dec.{eqb}
+use lib.ListN.{length, length-append}
+use lib.ListN.{drop as after}
+use lib.Seq.{drop-cons}
+use Rattle.base.specs.Bytes.{put}
+use Rattle.clause.specs.Clauses.{Literals, none}
+use Rattle.sheet.specs.Editions.{narrow}
+use Rattle.sheet.specs.Fields.{recordBytesOf}
+use Rattle.sheet.specs.Counts.{stepOf}
+use Rattle.sheet.specs.Records.{Node, given, step, Record, node, drop, nodeAt}
+use Rattle.pressing.specs.Trim.{naming, usesIn, uses}
+use Rattle.pressing.specs.Drops.{dropLast, dropsAfter, withDrops}
+use Rattle.emit.specs.Emission.{Emission, emission, emitRecord, emitAll, recordsAt, Roomy}
+use Rattle.tables.proofs.Found.{IsGiven}
+use Rattle.emit.proofs.Emits.{emitAll-append, records-grow}
+
+-- ---- whether a node names n
+
+abbrev pub Names : ℕ → Node → Bool
+Names n x = not (eqb (usesIn n x) 0)
+
+pub names-given : (n : ℕ) (x : Node) → IsGiven x → false ≡ Names n x
+unfolding usesIn
+names-given n x g = sym (ap (Names n) (g .2))
+
+module _ (n p l r : ℕ) (c : Literals) (x : Node) (e : x ≡ step p l r c) where
+  pub names-left : n ≡ l → true ≡ Names n x
+  unfolding usesIn naming
+  names-left q =
+      let one : naming n l ≡ 1 = rw (eq-eqb n l q) refl in
+      sym (ap (Names n) e ∙ ap not (ne-eqb (naming n l + naming n r) 0 (λ z. omega arith)))
+
+  pub names-right : (n ≡ l → ⊥) → eqb n r ≡ Names n x
+  unfolding usesIn naming
+  names-right q = sym (ap (Names n) e ∙ rw (ne-eqb n l q) (by (eqb n r)))
+    where
+      by : (b : Bool) → not (eqb (0 + cond b 1 0) 0) ≡ b
+      by true = refl
+      by false = refl
+
+-- ---- whether a node from m on does
+
+abbrev pub Named : ℕ → List Node → Bool
+Named n s = not (eqb (uses s n) 0)
+
+pub after-all : (m : ℕ) (s : List Node) → length s ≤ m → after m s ≡ []
+after-all zero [] h = refl
+after-all zero (x ∷ s) h = absurd (omega arith)
+after-all (suc m) [] h = refl
+after-all (suc m) (x ∷ s) h = after-all m s (omega arith)
+
+module _ (n : ℕ) (s : List Node) (m : ℕ) where
+  pub from-cons : m < length s → after m s ≡ nodeAt s m ∷ after (m + 1) s
+  unfolding nodeAt
+  from-cons h = drop-cons s m (given 0 none) h ∙ ap (λ (k : ℕ). nodeAt s m ∷ after k s) (sym (add-one m))
+
+  module _ (h : m < length s) where
+    pub named-here : true ≡ Names n (nodeAt s m) → true ≡ Named n (after m s)
+    unfolding uses
+    named-here e = by (usesIn n (nodeAt s m)) e ∙ sym (ap (Named n) (from-cons h))
+      where
+        by : (k : ℕ) → true ≡ not (eqb k 0) → true ≡ not (eqb (k + uses (after (m + 1) s) n) 0)
+        by zero q = absurd (true≢false q)
+        by (suc k) q = sym (ap not (ne-eqb (suc k + uses (after (m + 1) s) n) 0 (λ z. omega arith)))
+
+    pub named-later : false ≡ Names n (nodeAt s m) → Named n (after m s) ≡ Named n (after (m + 1) s)
+    unfolding uses
+    named-later e = ap (Named n) (from-cons h) ∙ by (usesIn n (nodeAt s m)) e
+      where
+        by : (k : ℕ) → false ≡ not (eqb k 0) → not (eqb (k + uses (after (m + 1) s) n) 0) ≡ not (eqb (uses (after (m + 1) s) n) 0)
+        by zero q = let z : 0 + uses (after (m + 1) s) n ≡ uses (after (m + 1) s) n = omega arith in ap (λ (k : ℕ). not (eqb k 0)) z
+        by (suc k) q = absurd (true≢false (sym (q ∙ ap not (ne-eqb (suc k) 0 (λ z. omega arith)))))
+
+  pub named-none : length s ≤ m → false ≡ Named n (after m s)
+  unfolding uses
+  named-none h = sym (ap (Named n) (after-all m s h))
+
+-- ---- what is counted after a record
+
+module _ (out : List ℕ) (records held peak steps : ℕ) (q : Record) where
+  abbrev wrote : List ℕ
+  wrote = put out (24 * records) (recordBytesOf narrow q)
+
+  pub node-counted : (x : Node) (peak′ steps′ : ℕ) → q ≡ node x → peak′ ≡ max peak (held + 1) → steps′ ≡ steps + stepOf x
+      → emission wrote (records + 1) (held + 1) peak′ steps′ ≡ emitRecord q (emission out records held peak steps)
+  unfolding emitRecord
+  node-counted x peak′ steps′ e p s = rw (e, p, s)
+
+  pub drop-counted : (n held′ : ℕ) → q ≡ drop n → held′ ≡ held - 1
+      → emission wrote (records + 1) held′ peak steps ≡ emitRecord q (emission out records held peak steps)
+  unfolding emitRecord
+  drop-counted n held′ e h = rw (e, h)

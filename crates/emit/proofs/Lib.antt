@@ -1,0 +1,4 @@
+pub mod Emits
+pub mod Emitting
+pub mod Rooms
+pub mod Cores

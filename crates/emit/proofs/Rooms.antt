@@ -1,0 +1,176 @@
+-- Room for the records that are still to come, and what a turn of the emitting pass makes of it.
+use mathlib.Core.Path.{_≡_, refl, sym, ap, ap₂, _∙_}
+use mathlib.Core.Bool.{Bool, true, false, not, cond, true≢false}
+use mathlib.Core.List.{List, [], _∷_, _++_, append-nil, append-assoc}
+use Prim.Native.Nat.{ℕ, zero, suc, _+_, _-_, _*_, _<_, _≤_, min, max}
+use native.Mathlib.Omega.{arith}
+use borrow.Author.Tests.{eq-eqb, ne-eqb}
+use lib.Dec.{eqb}
+use lib.ListN.{length, length-append}
+use lib.ListN.{drop as after}
+use Rattle.base.proofs.Bytes.{length-put}
+use Rattle.clause.specs.Clauses.{Literals}
+use Rattle.sheet.specs.Editions.{narrow}
+use Rattle.sheet.specs.Records.{Node, given, step, Record, node, drop, nodeAt}
+use Rattle.sheet.specs.Fields.{recordBytesOf}
+use Rattle.sheet.specs.Counts.{stepOf}
+use Rattle.sheet.proofs.Fields.{length-recordBytesOf}
+use Rattle.pressing.specs.Trim.{uses}
+use Rattle.pressing.specs.Drops.{dropLast, dropsAfter, withDrops}
+use Rattle.emit.specs.Emission.{Emission, emission, emitRecord, emitAll, recordsAt, Roomy}
+use Rattle.tables.proofs.Found.{IsGiven}
+use Rattle.emit.proofs.Emits.{emitAll-append}
+use Rattle.emit.proofs.Emitting.{Named, from-cons, after-all}
+
+-- room for one record, as the code asks for it
+pub record One (e : Emission) : Type 0 where
+  pub counts : (e .records < 1023) × (e .held ≤ e .records) × (e .steps ≤ e .records)
+  pub bytes : 24 * e .records + 24 ≤ length (e .out)
+
+pub roomy-one : (r : Record) (rs : List Record) (e : Emission) → Roomy (r ∷ rs) e → One e
+roomy-one r rs e h = record { counts = (omega (arith, h .few), h .held, h .steps); bytes = omega (arith, h .room) }
+
+put-length : (r : Record) (rs : List Record) (e : Emission) → Roomy (r ∷ rs) e → length (emitRecord r e .out) ≡ length (e .out)
+unfolding emitRecord
+put-length (node x) rs e h = length-put (e .out) (24 * e .records) (recordBytesOf narrow (node x)) (omega (arith, h .room, length-recordBytesOf narrow (node x)))
+put-length (drop n) rs e h = length-put (e .out) (24 * e .records) (recordBytesOf narrow (drop n)) (omega (arith, h .room, length-recordBytesOf narrow (drop n)))
+
+stepOf-le : (x : Node) → stepOf x ≤ 1
+unfolding stepOf
+stepOf-le (given line c) = omega arith
+stepOf-le (step p l r c) = omega arith
+
+pub roomy-next : (r : Record) (rs : List Record) (e : Emission) → Roomy (r ∷ rs) e → Roomy rs (emitRecord r e)
+unfolding emitRecord
+roomy-next (node x) rs e h = record {
+  few = omega (arith, h .few);
+  room = omega (arith, h .room, put-length (node x) rs e h);
+  held = omega (arith, h .held);
+  steps = omega (arith, h .steps, stepOf-le x);
+}
+roomy-next (drop n) rs e h = record {
+  few = omega (arith, h .few);
+  room = omega (arith, h .room, put-length (drop n) rs e h);
+  held = omega (arith, h .held);
+  steps = omega (arith, h .steps);
+}
+
+-- room for some records is room for the first of them, and for the others after these
+pub roomy-first : (xs ys : List Record) (e : Emission) → Roomy (xs ++ ys) e → Roomy xs e
+roomy-first xs ys e h = record { few = omega (arith, h .few, length-append xs ys); room = omega (arith, h .room, length-append xs ys); held = h .held; steps = h .steps }
+
+pub roomy-rest : (xs ys : List Record) (e : Emission) → Roomy (xs ++ ys) e → Roomy ys (emitAll xs e)
+unfolding emitAll
+roomy-rest [] ys e h = h
+roomy-rest (x ∷ xs) ys e h = roomy-rest xs ys (emitRecord x e) (roomy-next x (xs ++ ys) e h)
+
+-- ---- the drop of n, or none
+
+module _ (later : List Node) (n : ℕ) (e : Emission) where
+  used : true ≡ Named n later → dropLast later n ≡ []
+  unfolding dropLast
+  used h = by (eqb (uses later n) 0) h
+    where
+      by : (b : Bool) → true ≡ not b → cond b (drop n ∷ []) [] ≡ []
+      by true q = absurd (true≢false q)
+      by false q = refl
+
+  unused : false ≡ Named n later → dropLast later n ≡ drop n ∷ []
+  unfolding dropLast
+  unused h = by (eqb (uses later n) 0) h
+    where
+      by : (b : Bool) → false ≡ not b → cond b (drop n ∷ []) [] ≡ drop n ∷ []
+      by true q = refl
+      by false q = absurd (true≢false (sym q))
+
+  pub last-kept : true ≡ Named n later → e ≡ emitAll (dropLast later n) e
+  unfolding emitAll
+  last-kept h = sym (ap (λ (rs : List Record). emitAll rs e) (used h))
+
+  pub last-dropped : false ≡ Named n later → emitRecord (drop n) e ≡ emitAll (dropLast later n) e
+  unfolding emitAll
+  last-dropped h = sym (ap (λ (rs : List Record). emitAll rs e) (unused h))
+
+  pub last-room : false ≡ Named n later → Roomy (dropLast later n) e → One e
+  last-room h r = roomy-one (drop n) [] e (rw (unused h) at r)
+
+-- ---- a node and its drops
+
+module _ (s : List Node) (k : ℕ) where
+  drops-given : IsGiven (nodeAt s k) → dropsAfter (nodeAt s k) (after (k + 1) s) ≡ []
+  unfolding dropsAfter
+  drops-given g = ap (λ (x : Node). dropsAfter x (after (k + 1) s)) (g .2)
+
+  module _ (p l r : ℕ) (c : Literals) (q : nodeAt s k ≡ step p l r c) where
+    drops-same : l ≡ r → dropsAfter (nodeAt s k) (after (k + 1) s) ≡ dropLast (after (k + 1) s) l ++ []
+    unfolding dropsAfter
+    drops-same e =
+        let low : min l r ≡ l = omega arith in
+        ap (λ (x : Node). dropsAfter x (after (k + 1) s)) q ∙ rw (eq-eqb l r e, low)
+
+    drops-two : (l ≡ r → ⊥) → dropsAfter (nodeAt s k) (after (k + 1) s) ≡ dropLast (after (k + 1) s) (min l r) ++ dropLast (after (k + 1) s) (max l r)
+    unfolding dropsAfter
+    drops-two d = ap (λ (x : Node). dropsAfter x (after (k + 1) s)) q ∙ rw (ne-eqb l r d)
+
+  module _ (e : Emission) where
+    pub turn-room : Roomy (recordsAt s k) e → One e
+    unfolding recordsAt
+    turn-room h = roomy-one (node (nodeAt s k)) (dropsAfter (nodeAt s k) (after (k + 1) s)) e h
+
+    rest-room : Roomy (recordsAt s k) e → Roomy (dropsAfter (nodeAt s k) (after (k + 1) s)) (emitRecord (node (nodeAt s k)) e)
+    unfolding recordsAt
+    rest-room h = roomy-next (node (nodeAt s k)) (dropsAfter (nodeAt s k) (after (k + 1) s)) e h
+
+    whole : emitAll (dropsAfter (nodeAt s k) (after (k + 1) s)) (emitRecord (node (nodeAt s k)) e) ≡ emitAll (recordsAt s k) e
+    unfolding recordsAt emitAll
+    whole = refl
+
+    pub turn-given : IsGiven (nodeAt s k) → emitRecord (node (nodeAt s k)) e ≡ emitAll (recordsAt s k) e
+    unfolding emitAll
+    turn-given g = sym (ap (λ (rs : List Record). emitAll rs (emitRecord (node (nodeAt s k)) e)) (drops-given g)) ∙ whole
+
+    module _ (p l r : ℕ) (c : Literals) (q : nodeAt s k ≡ step p l r c) where
+      pub same-room : l ≡ r → Roomy (recordsAt s k) e → Roomy (dropLast (after (k + 1) s) l) (emitRecord (node (nodeAt s k)) e)
+      same-room d h = roomy-first (dropLast (after (k + 1) s) l) [] (emitRecord (node (nodeAt s k)) e) (rw (drops-same p l r c q d) at (rest-room h))
+
+      pub turn-same : l ≡ r → emitAll (dropLast (after (k + 1) s) l) (emitRecord (node (nodeAt s k)) e) ≡ emitAll (recordsAt s k) e
+      turn-same d =
+          ap (λ (rs : List Record). emitAll rs (emitRecord (node (nodeAt s k)) e)) (sym (append-nil (dropLast (after (k + 1) s) l)) ∙ sym (drops-same p l r c q d)) ∙ whole
+
+      pub low-room : (l ≡ r → ⊥) → Roomy (recordsAt s k) e → Roomy (dropLast (after (k + 1) s) (min l r)) (emitRecord (node (nodeAt s k)) e)
+      low-room d h =
+          roomy-first (dropLast (after (k + 1) s) (min l r)) (dropLast (after (k + 1) s) (max l r)) (emitRecord (node (nodeAt s k)) e) (rw (drops-two p l r c q d) at (rest-room h))
+
+      pub high-room : (l ≡ r → ⊥) → Roomy (recordsAt s k) e
+          → Roomy (dropLast (after (k + 1) s) (max l r)) (emitAll (dropLast (after (k + 1) s) (min l r)) (emitRecord (node (nodeAt s k)) e))
+      high-room d h =
+          roomy-rest (dropLast (after (k + 1) s) (min l r)) (dropLast (after (k + 1) s) (max l r)) (emitRecord (node (nodeAt s k)) e) (rw (drops-two p l r c q d) at (rest-room h))
+
+      pub turn-two : (l ≡ r → ⊥)
+          → emitAll (dropLast (after (k + 1) s) (max l r)) (emitAll (dropLast (after (k + 1) s) (min l r)) (emitRecord (node (nodeAt s k)) e)) ≡ emitAll (recordsAt s k) e
+      turn-two d =
+          sym (emitAll-append (dropLast (after (k + 1) s) (min l r)) (dropLast (after (k + 1) s) (max l r)) (emitRecord (node (nodeAt s k)) e))
+          ∙ ap (λ (rs : List Record). emitAll rs (emitRecord (node (nodeAt s k)) e)) (sym (drops-two p l r c q d))
+          ∙ whole
+
+-- ---- the loop: what is left to emit
+
+module _ (s : List Node) (k : ℕ) where
+  drops-on : k < length s → withDrops (after k s) ≡ recordsAt s k ++ withDrops (after (k + 1) s)
+  unfolding withDrops recordsAt
+  drops-on h = ap withDrops (from-cons 0 s k h)
+
+  module _ (h : k < length s) (e : Emission) where
+    pub emit-room : Roomy (withDrops (after k s)) e → Roomy (recordsAt s k) e
+    emit-room r = roomy-first (recordsAt s k) (withDrops (after (k + 1) s)) e (rw (drops-on h) at r)
+
+    pub emit-room-left : Roomy (withDrops (after k s)) e → Roomy (withDrops (after (k + 1) s)) (emitAll (recordsAt s k) e)
+    emit-room-left r = roomy-rest (recordsAt s k) (withDrops (after (k + 1) s)) e (rw (drops-on h) at r)
+
+    pub emit-on : emitAll (withDrops (after (k + 1) s)) (emitAll (recordsAt s k) e) ≡ emitAll (withDrops (after k s)) e
+    emit-on =
+        sym (emitAll-append (recordsAt s k) (withDrops (after (k + 1) s)) e) ∙ ap (λ (rs : List Record). emitAll rs e) (sym (drops-on h))
+
+  pub emit-done : length s ≤ k → (e : Emission) → emitAll (withDrops (after k s)) e ≡ e
+  unfolding withDrops emitAll
+  emit-done h e = ap (λ (l : List Node). emitAll (withDrops l) e) (after-all k s h)

@@ -1,0 +1,2 @@
+// Judging: what of a sheet is refused, and its nodes where nothing is.
+pub mod judge;
