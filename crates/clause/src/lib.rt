@@ -5,8 +5,10 @@ ghost use Rattle.clause.specs.Sets.{has, withBelow, without, union, meet
 ghost use Rattle.clause.specs.Clauses.{alike, resolvent};
 ghost use Rattle.clause.specs.Denote.{setOf, literalsOf};
 
+#[repr(C)]
 pub struct Set(pub u64);
 
+#[repr(C)]
 pub struct Clause {
     pub positive: Set,
     pub negative: Set,

@@ -11,6 +11,7 @@ pub mod read;
 pub mod write;
 
 // A node's number: given and resolution records, counted from 0.
+#[repr(C)]
 pub struct NodeNo(pub u16);
 
 // A record's number: its place in the sheet.

@@ -26,6 +26,7 @@ use sheet::Verdict;
 pub mod check;
 
 // A slot of the row: a mark of use (not zero: in use), a node's number, and its clause's two sets. A free slot is all zero.
+#[repr(C)]
 pub struct Slot {
     pub used: u8,
     pub node: NodeNo,

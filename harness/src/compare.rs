@@ -1,0 +1,182 @@
+//! The proved library against the second program: answers, reports, and every
+//! byte of the memory lent and around it.
+
+use crate::lent::Lent;
+use crate::library::{self, PRESS_WORDS, REPLAY_WORDS};
+use reference::cases::{draw, Case, Size};
+use reference::lengths::RECORD;
+use reference::press::{press, Pressed};
+use reference::refusal::Refusal;
+use reference::replay::{replay, Replayed, Slot};
+use reference::rng::Rng;
+
+/// What differs, in words.
+pub type Difference = String;
+
+/// What was compared.
+#[derive(Default)]
+pub struct Count {
+    pub pressed: usize,
+    pub replayed: usize,
+    pub refused: usize,
+}
+
+/// The words that a press's answer fills a report with.
+pub fn press_words(answer: &Result<Pressed, Refusal>) -> [u64; PRESS_WORDS] {
+    match answer {
+        Err(refusal) => [refusal.record as u64, 0, 0, 0, 0, 0, 0, 0],
+        Ok(done) => [
+            0,
+            done.positive,
+            done.negative,
+            done.records as u64,
+            done.nodes as u64,
+            done.steps as u64,
+            done.peak as u64,
+            done.marked as u64,
+        ],
+    }
+}
+
+pub fn replay_words(answer: &Result<Replayed, Refusal>) -> [u64; REPLAY_WORDS] {
+    match answer {
+        Err(refusal) => [refusal.record as u64, 0, 0, 0, 0, 0],
+        Ok(done) => [
+            0,
+            done.positive,
+            done.negative,
+            done.nodes as u64,
+            done.steps as u64,
+            done.peak as u64,
+        ],
+    }
+}
+
+fn code<T>(answer: &Result<T, Refusal>) -> u32 {
+    answer.as_ref().err().map_or(0, |refusal| refusal.number)
+}
+
+/// The report of a call: as many of the words as fit, the rest as it was.
+fn filled(before: &Lent, words: &[u64]) -> Lent {
+    let mut report = before.clone();
+    for (place, word) in report.words().iter_mut().zip(words) {
+        *place = *word;
+    }
+    report
+}
+
+fn same<T: PartialEq>(what: &str, ours: &T, theirs: &T) -> Result<(), Difference> {
+    if ours == theirs {
+        return Ok(());
+    }
+    Err(format!("not alike: {what}"))
+}
+
+fn same_code(ours: u32, theirs: u32) -> Result<(), Difference> {
+    same(
+        &format!("the answer ({ours}, not {theirs})"),
+        &ours,
+        &theirs,
+    )
+}
+
+/// One press, with a report of this many words. The pressed sheet is handed
+/// back if there is one.
+pub fn press_alike(
+    rng: &mut Rng,
+    sheet: &[u8],
+    rules: &[u8],
+    (room, marks): (usize, usize),
+    report: usize,
+) -> Result<Option<(Vec<u8>, Pressed)>, Difference> {
+    let mut out = Lent::of_bytes(rng, room);
+    let mut marks = Lent::of_bytes(rng, marks);
+    let mut report = Lent::of_words(rng, report);
+    let (mut their_out, mut their_marks) = (out.clone(), marks.clone());
+    let theirs = press(sheet, rules, their_out.bytes(), their_marks.bytes());
+    let their_report = filled(&report, &press_words(&theirs));
+
+    let ours = library::press(sheet, rules, out.bytes(), marks.bytes(), report.words());
+    same_code(ours, code(&theirs))?;
+    same("the report", &report, &their_report)?;
+    same("the output", &out, &their_out)?;
+    same("the marks", &marks, &their_marks)?;
+    let pressed = theirs.ok();
+    Ok(pressed.map(|done| (out.bytes()[..done.records * RECORD].to_vec(), done)))
+}
+
+/// One replay, with a report of this many words.
+pub fn replay_alike(
+    rng: &mut Rng,
+    sheet: &[u8],
+    rules: &[u8],
+    slots: usize,
+    report: usize,
+) -> Result<Result<Replayed, Refusal>, Difference> {
+    let mut row = Lent::of_slots(rng, slots);
+    let mut report = Lent::of_words(rng, report);
+    let before = row.clone();
+    let theirs = replay(sheet, rules, &mut vec![Slot::default(); slots]);
+    let their_report = filled(&report, &replay_words(&theirs));
+
+    let ours = library::replay(sheet, rules, row.slots(), report.words());
+    let their_row = match code(&theirs) {
+        1..=4 => before,
+        _ => before.with_free_slots(&row),
+    };
+    same_code(ours, code(&theirs))?;
+    same("the report", &report, &their_report)?;
+    same("the row of slots", &row, &their_row)?;
+    Ok(theirs)
+}
+
+/// "Pressed output replayed at the peak and one below."
+fn pressed_alike(
+    rng: &mut Rng,
+    out: &[u8],
+    rules: &[u8],
+    done: &Pressed,
+) -> Result<(), Difference> {
+    let at_peak = replay_alike(rng, out, rules, done.peak, REPLAY_WORDS)?;
+    let expected = Replayed {
+        positive: done.positive,
+        negative: done.negative,
+        nodes: done.nodes,
+        steps: done.steps,
+        peak: done.peak,
+    };
+    same("the replay at the peak", &at_peak, &Ok(expected))?;
+    let below = replay_alike(rng, out, rules, done.peak - 1, REPLAY_WORDS)?;
+    same("the replay one below the peak", &code(&below), &15)
+}
+
+/// The case of this index under this seed, and if it is a press that is
+/// accepted, the replays of its output.
+pub fn case_alike(seed: u64, index: u64, count: &mut Count) -> Result<(), Difference> {
+    // not the stream that the case is drawn from
+    let mut rng = Rng::new(!seed, index);
+    let words = rng.below(10);
+    match draw(seed, index, Size::Any) {
+        Case::Press {
+            sheet,
+            rules,
+            room,
+            marks,
+        } => match press_alike(&mut rng, &sheet, &rules, (room, marks), words)? {
+            None => count.refused += 1,
+            Some((out, done)) => {
+                pressed_alike(&mut rng, &out, &rules, &done)?;
+                count.pressed += 1;
+            }
+        },
+        Case::Replay {
+            sheet,
+            rules,
+            slots,
+        } => match replay_alike(&mut rng, &sheet, &rules, slots, words)? {
+            Err(_) => count.refused += 1,
+            Ok(_) => count.replayed += 1,
+        },
+    }
+    Ok(())
+}

@@ -1,0 +1,82 @@
+//! The proved library's two functions, as include/tempuquile.h declares them.
+
+pub mod c {
+    use super::Slot;
+
+    extern "C" {
+        pub fn tempuquile_press(
+            sheet: *const u8,
+            sheet_len: usize,
+            rules: *const u8,
+            rules_len: usize,
+            out: *mut u8,
+            out_len: usize,
+            marks: *mut u8,
+            marks_len: usize,
+            report: *mut u64,
+            report_len: usize,
+        ) -> u32;
+        pub fn tempuquile_replay(
+            sheet: *const u8,
+            sheet_len: usize,
+            rules: *const u8,
+            rules_len: usize,
+            slots: *mut Slot,
+            slots_len: usize,
+            report: *mut u64,
+            report_len: usize,
+        ) -> u32;
+    }
+}
+
+/// `tempuquile_slot`. Any bytes are one.
+#[derive(Clone, Copy, Debug, Default, PartialEq, Eq)]
+#[repr(C)]
+pub struct Slot {
+    pub used: u8,
+    pub node: u16,
+    pub positive: u64,
+    pub negative: u64,
+}
+
+/// The words of a report: of a press, of a replay.
+pub const PRESS_WORDS: usize = 8;
+pub const REPLAY_WORDS: usize = 6;
+
+pub fn press(
+    sheet: &[u8],
+    rules: &[u8],
+    out: &mut [u8],
+    marks: &mut [u8],
+    report: &mut [u64],
+) -> u32 {
+    unsafe {
+        c::tempuquile_press(
+            sheet.as_ptr(),
+            sheet.len(),
+            rules.as_ptr(),
+            rules.len(),
+            out.as_mut_ptr(),
+            out.len(),
+            marks.as_mut_ptr(),
+            marks.len(),
+            report.as_mut_ptr(),
+            report.len(),
+        )
+    }
+}
+
+pub fn replay(sheet: &[u8], rules: &[u8], slots: &mut [Slot], report: &mut [u64]) -> u32 {
+    unsafe {
+        c::tempuquile_replay(
+            sheet.as_ptr(),
+            sheet.len(),
+            rules.as_ptr(),
+            rules.len(),
+            slots.as_mut_ptr(),
+            slots.len(),
+            report.as_mut_ptr(),
+            report.len(),
+        )
+    }
+}

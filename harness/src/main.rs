@@ -1,0 +1,68 @@
+//! `harness compare`, `harness bench` and `harness calls`.
+
+use harness::bench;
+use harness::compare::{case_alike, Count};
+use std::process::ExitCode;
+use std::time::{SystemTime, UNIX_EPOCH};
+
+const USAGE: &str = "usage:
+  harness compare [--seed S] [--count N]     a seed of its own, and 20000 cases, if none is given
+  harness bench
+  harness calls library|reference press|replay SHEET N";
+
+fn main() -> ExitCode {
+    let words: Vec<String> = std::env::args().skip(1).collect();
+    let words: Vec<&str> = words.iter().map(String::as_str).collect();
+    let done = match words.as_slice() {
+        ["compare", flags @ ..] => compare(flags),
+        ["bench"] => {
+            bench::tables(|line| println!("{line}"));
+            Some(true)
+        }
+        ["calls", side, job, name, calls] => calls
+            .parse()
+            .ok()
+            .and_then(|calls| bench::calls(side, job, name, calls))
+            .map(|()| true),
+        _ => None,
+    };
+    match done {
+        Some(true) => ExitCode::SUCCESS,
+        Some(false) => ExitCode::FAILURE,
+        None => {
+            eprintln!("{USAGE}");
+            ExitCode::from(2)
+        }
+    }
+}
+
+/// Whether all is alike; none, if the flags don't read.
+fn compare(flags: &[&str]) -> Option<bool> {
+    let (mut seed, mut count) = (own_seed(), 20_000);
+    for flag in flags.chunks(2) {
+        match flag {
+            ["--seed", number] => seed = number.parse().ok()?,
+            ["--count", number] => count = number.parse().ok()?,
+            _ => return None,
+        }
+    }
+    let mut seen = Count::default();
+    let mut different = 0;
+    for index in 0..count {
+        if let Err(what) = case_alike(seed, index, &mut seen) {
+            println!("seed {seed}, case {index}: {what}");
+            different += 1;
+        }
+    }
+    println!(
+        "seed {seed}: {} pressed and replayed at the peak and one below, {} replayed, {} refused",
+        seen.pressed, seen.replayed, seen.refused
+    );
+    println!("{count} compared, {different} different");
+    Some(different == 0)
+}
+
+fn own_seed() -> u64 {
+    let now = SystemTime::now().duration_since(UNIX_EPOCH);
+    now.expect("the clock is past 1970").as_nanos() as u64
+}

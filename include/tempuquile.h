@@ -1,0 +1,110 @@
+/*
+ * Tempuquile's two jobs from C: the press and the replay.
+ *
+ * Every slice is a pointer and how many elements it has. A pointer is never null, not even where the length is 0, and is aligned for
+ * its elements. The memory of a slice that is written overlaps no other slice of the call. All else is allowed: any bytes, any
+ * lengths, and any contents of the memory that is lent.
+ *
+ * Both functions answer 0, or the number of the refusal. Both fill `report` with the words listed below, as many as fit in
+ * `report_len`; words beyond the list are untouched. On a refusal word 0 is the number of the record refused and the others are 0.
+ * On acceptance word 0 is 0.
+ */
+#ifndef TEMPUQUILE_H
+#define TEMPUQUILE_H
+
+#include <stddef.h>
+#include <stdint.h>
+
+#ifdef __cplusplus
+extern "C" {
+#endif
+
+/* The answer: 0, or the first of these that applies. 1 to 5 report record 0, 16 the count of records. */
+#define TEMPUQUILE_OK 0
+#define TEMPUQUILE_RAGGED 1         /* the sheet's length is no multiple of 24 */
+#define TEMPUQUILE_EMPTY 2          /* the sheet is empty */
+#define TEMPUQUILE_LONG 3           /* over 512 records (press), over 1,023 (replay) */
+#define TEMPUQUILE_TABLE 4          /* the rule table's length is no multiple of 16, or it has over 1,024 lines */
+#define TEMPUQUILE_ROOM 5           /* press: out is under 48 N - 24 bytes for N records, or marks are fewer than the rule lines */
+#define TEMPUQUILE_KIND 6           /* unknown kind; for the press a drop too */
+#define TEMPUQUILE_NOT_ZERO 7       /* a byte that must be zero isn't */
+#define TEMPUQUILE_PIVOT 8          /* pivot over 63 */
+#define TEMPUQUILE_NOT_EARLIER 9    /* a named node isn't earlier */
+#define TEMPUQUILE_DROPPED 10       /* replay: a named node was dropped */
+#define TEMPUQUILE_PIVOT_MISSING 11 /* +p is missing on the left or -p on the right */
+#define TEMPUQUILE_NOT_RESULT 12    /* the written clause isn't the result */
+#define TEMPUQUILE_NO_LINE 13       /* rule line beyond the table */
+#define TEMPUQUILE_LINE_DIFFERS 14  /* the given clause differs from its rule line */
+#define TEMPUQUILE_FULL 15          /* replay: a node record, and every slot holds a node */
+#define TEMPUQUILE_NOT_HELD 16      /* replay: at the end the last node isn't held */
+
+/* The words of a press's report. A set is a word whose bit v is variable v. */
+#define TEMPUQUILE_PRESS_RECORD 0
+#define TEMPUQUILE_PRESS_POSITIVE 1
+#define TEMPUQUILE_PRESS_NEGATIVE 2
+#define TEMPUQUILE_PRESS_RECORDS 3
+#define TEMPUQUILE_PRESS_NODES 4
+#define TEMPUQUILE_PRESS_STEPS 5
+#define TEMPUQUILE_PRESS_PEAK 6
+#define TEMPUQUILE_PRESS_MARKED 7
+#define TEMPUQUILE_PRESS_WORDS 8
+
+/* The words of a replay's report. */
+#define TEMPUQUILE_REPLAY_RECORD 0
+#define TEMPUQUILE_REPLAY_POSITIVE 1
+#define TEMPUQUILE_REPLAY_NEGATIVE 2
+#define TEMPUQUILE_REPLAY_NODES 3
+#define TEMPUQUILE_REPLAY_STEPS 4
+#define TEMPUQUILE_REPLAY_PEAK 5
+#define TEMPUQUILE_REPLAY_WORDS 6
+
+/*
+ * A slot of the replay's row: 24 bytes, aligned to 8. A free slot's fields are all zero; in one that is in use `used` is not zero.
+ * Bytes 1 and 4 to 7 belong to no field: nothing is promised of them, and a call may leave there what it had on its stack.
+ */
+typedef struct tempuquile_slot {
+    uint8_t used;      /* at 0: a mark of whether it's in use */
+    uint16_t node;     /* at 2: the node's number */
+    uint64_t positive; /* at 8: the clause's positive set */
+    uint64_t negative; /* at 16: its negative set */
+} tempuquile_slot;
+
+#if defined(__cplusplus)
+#define TEMPUQUILE_HOLDS(fact) static_assert(fact, #fact)
+#define TEMPUQUILE_ALIGNED alignof(tempuquile_slot)
+#else
+#define TEMPUQUILE_HOLDS(fact) _Static_assert(fact, #fact)
+#define TEMPUQUILE_ALIGNED _Alignof(tempuquile_slot)
+#endif
+TEMPUQUILE_HOLDS(sizeof(tempuquile_slot) == 24);
+TEMPUQUILE_HOLDS(TEMPUQUILE_ALIGNED == 8);
+TEMPUQUILE_HOLDS(offsetof(tempuquile_slot, used) == 0);
+TEMPUQUILE_HOLDS(offsetof(tempuquile_slot, node) == 2);
+TEMPUQUILE_HOLDS(offsetof(tempuquile_slot, positive) == 8);
+TEMPUQUILE_HOLDS(offsetof(tempuquile_slot, negative) == 16);
+TEMPUQUILE_HOLDS(sizeof(size_t) == 8);
+#undef TEMPUQUILE_HOLDS
+#undef TEMPUQUILE_ALIGNED
+
+/*
+ * Presses `sheet` against the rule table `rules`.
+ *
+ * Accepted: `out` starts with the pressed sheet, 24 bytes for each of the records reported, and is untouched beyond; `marks` starts
+ * with 1 or 0 for each rule line, and is untouched beyond. Refused: neither is changed.
+ */
+uint32_t tempuquile_press(const uint8_t *sheet, size_t sheet_len, const uint8_t *rules, size_t rules_len, uint8_t *out, size_t out_len,
+                          uint8_t *marks, size_t marks_len, uint64_t *report, size_t report_len);
+
+/*
+ * Replays `sheet` against the rule table `rules`, holding clauses in the row `slots`, of `slots_len` slots (not bytes).
+ *
+ * Refused by 1 to 4: the slots are left alone. Every other replay, accepted too, ends with all slots free and zero.
+ */
+uint32_t tempuquile_replay(const uint8_t *sheet, size_t sheet_len, const uint8_t *rules, size_t rules_len, tempuquile_slot *slots,
+                           size_t slots_len, uint64_t *report, size_t report_len);
+
+#ifdef __cplusplus
+}
+#endif
+
+#endif
