@@ -1,7 +1,8 @@
-//! `reference cases`, `reference press`, `reference shelf` and `reference stats`.
+//! `reference cases`, `press`, `shelf`, `stats`, `stream` and `tries`.
 
 use reference::cases::{draw, Size};
-use reference::{program, shelf, stats, text};
+use reference::stream::{self, Entry};
+use reference::{program, shelf, stats, text, tries};
 use std::io::{self, Write};
 use std::path::Path;
 use std::process::ExitCode;
@@ -10,7 +11,9 @@ const USAGE: &str = "usage:
   reference cases --seed S --count N [--small] [--trace]
   reference press DIR
   reference shelf DIR
-  reference stats --seed S --count N [--small]";
+  reference stats --seed S --count N [--small]
+  reference stream --seed S --count N DIR
+  reference tries DIR";
 
 fn main() -> ExitCode {
     let words: Vec<String> = std::env::args().skip(1).collect();
@@ -19,6 +22,10 @@ fn main() -> ExitCode {
         ["press", dir] => print(&format!("{}\n", program::run(Path::new(dir)))),
         ["shelf", dir] => make_shelf(Path::new(dir)),
         ["cases", flags @ ..] => with_drawing(flags, print_cases),
+        ["stream", flags @ .., dir] => with_drawing(flags, |drawing| {
+            write_stream(dir, &stream::random(drawing.seed, drawing.count))
+        }),
+        ["tries", dir] => write_stream(dir, &tries::entries()),
         ["stats", flags @ ..] => with_drawing(flags, print_stats),
         _ => Err(USAGE.to_string()),
     };
@@ -83,6 +90,17 @@ fn print_stats(drawing: &Drawing) -> Result<(), String> {
     let stats = stats::gather(drawing.seed, drawing.count, drawing.size);
     print(&stats.table())?;
     print(&format!("\nnever answered: {:?}\n", stats.missing()))
+}
+
+/// Writes the stream to DIR/stdin, and what is to be printed of it to DIR/stdout.
+fn write_stream(dir: &str, entries: &[Entry]) -> Result<(), String> {
+    let made = stream::of(entries);
+    let write = |name: &str, bytes: &[u8]| {
+        let path = Path::new(dir).join(name);
+        std::fs::write(&path, bytes).map_err(|error| format!("{}: {error}", path.display()))
+    };
+    write("stdin", &made.stdin)?;
+    write("stdout", made.stdout.as_bytes())
 }
 
 /// Unlike `print!`, a closed pipe is an error here and not a panic.

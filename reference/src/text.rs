@@ -77,11 +77,11 @@ fn replay_block(sheet: &[u8], rules: &[u8], slots: usize, with_trace: bool) -> S
         + &trace
 }
 
-fn refused(refusal: &Refusal) -> String {
+pub(crate) fn refused(refusal: &Refusal) -> String {
     format!("= refused {} {}\n", refusal.number, refusal.record)
 }
 
-fn pressed_line(pressed: &Pressed) -> String {
+pub(crate) fn pressed_line(pressed: &Pressed) -> String {
     format!(
         "= ok {:016x} {:016x} records {} nodes {} steps {} peak {} marked {}\n",
         pressed.positive,
@@ -94,14 +94,14 @@ fn pressed_line(pressed: &Pressed) -> String {
     )
 }
 
-fn replayed_line(replayed: &Replayed) -> String {
+pub(crate) fn replayed_line(replayed: &Replayed) -> String {
     format!(
         "= ok {:016x} {:016x} nodes {} steps {} peak {}\n",
         replayed.positive, replayed.negative, replayed.nodes, replayed.steps, replayed.peak
     )
 }
 
-fn trace_line(tally: &Tally, slots: &[Slot]) -> String {
+pub(crate) fn trace_line(tally: &Tally, slots: &[Slot]) -> String {
     let slots: String = slots.iter().map(slot_word).collect();
     let Tally {
         next,
@@ -123,7 +123,7 @@ fn slot_word(slot: &Slot) -> String {
     }
 }
 
-fn hex(bytes: &[u8]) -> String {
+pub(crate) fn hex(bytes: &[u8]) -> String {
     if bytes.is_empty() {
         return "-".to_string();
     }

@@ -3,11 +3,14 @@
 mod common;
 
 use common::*;
+use reference::clause::Literal;
+use reference::passes::order::order;
 use reference::passes::rebuild::Why;
 use reference::passes::recycle::Edge;
 use reference::press::{read_proof, run_passes};
-use reference::proof::Node;
+use reference::proof::{Node, Proof};
 use reference::record::Record;
+use reference::tries::passes::{both_lack, joined, trimmed_again};
 
 #[test]
 fn the_kept_side_of_a_cut() {
@@ -212,4 +215,45 @@ fn uses_count_places_and_not_children() {
     ];
     let passes = run_passes(read_proof(&sheet(&records), &base.write()).unwrap());
     assert_eq!(passes.order, [0, 2, 1, 3, 4, 5, 6]);
+}
+
+#[test]
+fn the_second_trim_lowers_uses() {
+    let table = rules(&["+0 +2 -1", "+0 -0 +1 -1 -2"]);
+    let passes = run_passes(read_proof(&sheet(&trimmed_again()), &table).unwrap());
+    let untrimmed = Proof {
+        nodes: passes.rebuilt.nodes.clone(),
+        sink: passes.pressed.sink,
+    };
+    assert_eq!(passes.order[..2], [0, 1]);
+    assert_eq!(order(&untrimmed)[..2], [1, 0]);
+}
+
+/// "left stand-in lacks +p, take it; else right lacks -p, take that": where
+/// both lack it, the left one is taken.
+#[test]
+fn the_left_stand_in_is_tested_first() {
+    let table = rules(&["-0 -1", "+0 +1 +2", "-0 -2"]);
+    let passes = run_passes(read_proof(&sheet(&both_lack()), &table).unwrap());
+    let clause_of = |number| passes.rebuilt.nodes[&passes.rebuilt.stand_ins[number]].clause();
+    let both_lack = |step: &usize| match &passes.trimmed.nodes[step] {
+        Node::Step {
+            pivot, left, right, ..
+        } => {
+            passes.visits[step].cut.is_none()
+                && !clause_of(left).holds(Literal::Plus(*pivot))
+                && !clause_of(right).holds(Literal::Minus(*pivot))
+                && passes.rebuilt.stand_ins[left] != passes.rebuilt.stand_ins[right]
+        }
+        Node::Given { .. } => false,
+    };
+    assert!(passes.visits.keys().any(both_lack));
+}
+
+#[test]
+fn a_rebuilt_step_may_name_one_node_twice() {
+    let table = rules(&["-0", "+0 +1 -1"]);
+    let done = press_ok(&sheet(&joined()), &table);
+    let expected = [given(1, "+0 +1 -1"), step(1, 0, 0, "+0 +1 -1"), dropped(0)];
+    assert_eq!(done.out, sheet(&expected));
 }

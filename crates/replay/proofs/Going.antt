@@ -54,7 +54,7 @@ module _ (n k : ℕ) where
 pub at-end : (k : ℕ) → 24 * k ≤ 24 * k + 24
 at-end k = omega arith
 
-lent-is : (sheet : List ℕ) (k : ℕ) → lent sheet k ≡ recordAt narrow sheet k
+pub lent-is : (sheet : List ℕ) (k : ℕ) → lent sheet k ≡ recordAt narrow sheet k
 unfolding recordAt part
 lent-is sheet k = let e : 24 * k + 24 - 24 * k ≡ 24 = omega arith in ap (λ (n : ℕ). take n (drop (24 * k) sheet)) e
 

@@ -1,6 +1,7 @@
 pub mod Answers
 pub mod Cells
 pub mod Going
+pub mod Owned
 pub mod Prims
 pub mod Running
 pub mod Stepping

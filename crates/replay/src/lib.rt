@@ -12,6 +12,7 @@ use step::StepAnswer;
 use step::Tally;
 
 pub mod answer;
+pub mod look;
 pub mod own;
 pub mod row;
 pub mod run;

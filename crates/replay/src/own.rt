@@ -10,7 +10,7 @@ ghost use Rattle.replay.specs.Said.{said};
 use crate::answer::ReplayAnswer;
 
 // At most 1,023.
-fn enough(slots: usize) -> usize
+pub fn enough(slots: usize) -> usize
     ensures { λ n. ⌜ n ≡ min slots 1023 ⌝ }
 {
     if slots < 1023 { slots } else { 1023 }

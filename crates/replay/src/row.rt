@@ -1,6 +1,6 @@
 // The lent row of slots: find, put and free are all that touches it.
 ghost use mathlib.Core.Path.{_≡_};
-ghost use lib.ListN.{length, set};
+ghost use lib.ListN.{length, set, getD};
 ghost use Rattle.replaying.specs.Slots.{empty, cleared};
 ghost use Rattle.step.specs.Search.{search};
 ghost use Rattle.step.specs.Said.{slotOf, rowOf, soughtIn, foundOf};
@@ -28,6 +28,17 @@ pub fn find(slots: &[Slot], sought: Sought) -> Found
         at: SlotNo(i),
         slot: step::empty(),
     }
+}
+
+// What a slot holds; past the row, an empty one.
+pub fn slot_at(slots: &[Slot], at: SlotNo) -> Slot
+    ensures { λ r. ⌜ slotOf r ≡ getD (rowOf (now (slots .entry))) (at .0) empty ⌝ }
+{
+    let i = at.0;
+    if i < slots.len() {
+        return slots[i];
+    }
+    step::empty()
 }
 
 // A slot is overwritten whole; past the row nothing is.

@@ -1,51 +1,14 @@
-//! Sheets written by hand, and calls with memory that shows what was touched.
+//! Calls with memory that shows what was touched.
 #![allow(dead_code)] // each test file uses its own part of this module
 
-use reference::clause::{Clause, Literal};
 use reference::lengths::{room_needed, LINE, RECORD};
 use reference::press::{press, Pressed};
-use reference::proof::Node;
-use reference::record::Record;
 use reference::refusal::Refusal;
 use reference::replay::{replay_watched, Replayed, Slot, Tally};
+pub use reference::sheets::*;
 
 /// What lent memory holds before a call.
 pub const OLD: u8 = 0xA5;
-
-pub fn clause(text: &str) -> Clause {
-    let literal = |word: &str| match word.split_at(1) {
-        ("+", variable) => Literal::Plus(variable.parse().unwrap()),
-        (_, variable) => Literal::Minus(variable.parse().unwrap()),
-    };
-    text.split_whitespace().map(literal).collect()
-}
-
-pub fn given(line: usize, text: &str) -> Record {
-    let clause = clause(text);
-    Record::Node(Node::Given { line, clause })
-}
-
-pub fn step(pivot: u8, left: usize, right: usize, text: &str) -> Record {
-    let clause = clause(text);
-    Record::Node(Node::Step {
-        pivot,
-        left,
-        right,
-        clause,
-    })
-}
-
-pub fn dropped(node: usize) -> Record {
-    Record::Drop { node }
-}
-
-pub fn sheet(records: &[Record]) -> Vec<u8> {
-    records.iter().flat_map(Record::write).collect()
-}
-
-pub fn rules(lines: &[&str]) -> Vec<u8> {
-    lines.iter().flat_map(|line| clause(line).write()).collect()
-}
 
 pub struct Done {
     pub pressed: Pressed,
@@ -145,25 +108,4 @@ pub fn slot(node: usize, text: &str) -> Slot {
         positive: clause.positive(),
         negative: clause.negative(),
     }
-}
-
-pub fn pair() -> (Vec<u8>, Vec<u8>) {
-    let records = [given(0, "+0"), given(1, "-0"), step(0, 0, 1, "")];
-    (sheet(&records), rules(&["+0", "-0"]))
-}
-
-pub fn irregular() -> (Vec<u8>, Vec<u8>) {
-    let records = [
-        given(0, "+0 +1"),
-        given(1, "-0 +2"),
-        step(0, 0, 1, "+1 +2"),
-        given(2, "+0 -1"),
-        step(1, 2, 3, "+0 +2"),
-        given(3, "-0"),
-        step(0, 4, 5, "+2"),
-        given(4, "-2"),
-        step(2, 6, 7, ""),
-    ];
-    let table = rules(&["+0 +1", "-0 +2", "+0 -1", "-0", "-2"]);
-    (sheet(&records), table)
 }

@@ -61,6 +61,7 @@ use Rattle.lending.proofs.Rows.{rows, lend-row, row-back, freed}
 use Rattle.replay.specs.Said.{said}
 use Rattle.replay.specs.declared.answer.ReplayAnswer.{ReplayAnswer}
 use Rattle.replay.proofs.Prims.{sv, Empty}
+use Rattle.replay.proofs.Owned.{row-replicate, n≤, roomy}
 use Rattle.replay.proofs.answer.ReplayAnswer as R
 use Rattle.replay.proofs.answer.ReplayAnswer.Laws as R′
 use Rattle.replay.proofs.own.enough as enough′
@@ -84,18 +85,7 @@ stayed = (stay-dropped (shrSliceOf (0 ∷ []) tt (plain (λ _. u8))) yes, (stay-
 abbrev av : ReplayAnswer → Val
 av = EL.val R.the-type R′.the-laws
 
-row-replicate : (n : ℕ) (s : Slot) → rowOf (replicate n s) ≡ replicate n (slotOf s)
-unfolding rowOf
-row-replicate zero s = refl
-row-replicate (suc n) s = ap (λ (l : List RowSlot). slotOf s ∷ l) (row-replicate n s)
-
 module _ (n : ℕ) (slots : ℕ) (e : n ≡ min slots 1023) where
-  n≤ : n ≤ 1023
-  n≤ = omega (arith, e)
-
-  roomy : (s : Slot) → Room T.the-row (length (replicate n s))
-  roomy s = subst (Room T.the-row) (sym (length-replicate n s)) (omega (arith, n≤), omega (arith, n≤))
-
   answers : (sheet rules : List ℕ) (s : Slot) → slotOf s ≡ empty → (r : ReplayAnswer) (zs : List Slot) → outcome (said r) (rowOf zs) ≡ replayed narrow sheet rules (rowOf (replicate n s)) → said r ≡ replayed narrow sheet rules (replicate slots empty) .answer
   answers sheet rules s es r zs is =
       ap (λ (o : Outcome). o .answer) is

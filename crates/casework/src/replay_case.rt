@@ -1,0 +1,110 @@
+// A case of the replay: its answer; and for one that is shown, what stands after each record.
+use crate::text;
+use replay::answer::ReplayAnswer;
+use replay::answer::Replayed;
+use replay::look;
+use sheet::SlotNo;
+use sheet::Verdict;
+use step::Slot;
+use step::StepAnswer;
+use step::Tally;
+
+fn print_replayed(r: Replayed) {
+    text::print_ok(r.conclusion);
+    text::print_count(b" nodes ", r.nodes);
+    text::print_count(b" steps ", r.steps);
+    text::print_count(b" peak ", r.peak);
+}
+
+pub fn run(sheet: &[u8], rules: &[u8], slots: usize) {
+    let answer = replay::own::replay_in(sheet, rules, slots);
+    match answer {
+        ReplayAnswer::Accepted(r) => print_replayed(r),
+        ReplayAnswer::Refused(why, k) => {
+            io::write_all(1, b"= ");
+            text::print_refused(why, k);
+        }
+    }
+    io::write_all(1, b"\n");
+}
+
+// "<node>:<positive>:<negative>", or "-" for a free slot.
+fn print_slot(s: Slot) {
+    if s.used == 0 {
+        io::write_all(1, b" -");
+        return;
+    }
+    let node = s.node;
+    let clause = s.clause;
+    text::print_count(b" ", node.0);
+    io::write_all(1, b":");
+    text::print_set(clause.positive);
+    io::write_all(1, b":");
+    text::print_set(clause.negative);
+}
+
+fn print_slots(sheet: &[u8], rules: &[u8], slots: usize, records: usize) {
+    let mut i = 0;
+    while i < slots {
+        let seen = look::look_after(sheet, rules, slots, records, SlotNo(i));
+        print_slot(seen.slot);
+        i += 1;
+    }
+}
+
+fn print_tally(t: Tally) {
+    text::print_count(b" tally ", t.next);
+    text::print_count(b" ", t.held);
+    text::print_count(b" ", t.peak);
+    text::print_count(b" ", t.steps);
+    io::write_all(1, b" slots");
+}
+
+// Whether the record was taken.
+fn print_answer(a: StepAnswer) -> bool {
+    match a {
+        StepAnswer::Taken => {
+            io::write_all(1, b"taken");
+            true
+        }
+        StepAnswer::Refused(why, k) => {
+            text::print_refused(why, k);
+            false
+        }
+        StepAnswer::Unfit => {
+            io::write_all(1, b"unfit");
+            false
+        }
+    }
+}
+
+// What stands after so many records, of which the last is shown. Whether it was taken.
+fn print_record(sheet: &[u8], rules: &[u8], slots: usize, records: usize) -> bool {
+    let seen = look::look_after(sheet, rules, slots, records, SlotNo(0));
+    let answer = seen.answer;
+    let taken = print_answer(answer);
+    print_tally(seen.tally);
+    print_slots(sheet, rules, slots, records);
+    io::write_all(1, b"\n");
+    taken
+}
+
+// Record after record, up to one that is refused; none where the lengths are.
+pub fn show(sheet: &[u8], rules: &[u8], slots: usize) {
+    let verdict = sheet::checks::check_lengths(
+        sheet::limits::REPLAY_RECORDS,
+        sheet.len(),
+        rules.len(),
+    );
+    let Verdict::Fine = verdict else {
+        return;
+    };
+    let whole = sheet.len() / sheet::limits::RECORD_BYTES;
+    let mut k = 0;
+    while k < whole {
+        k += 1;
+        if !print_record(sheet, rules, slots, k) {
+            return;
+        }
+    }
+}

@@ -1,0 +1,171 @@
+//! Cases as a stream of bytes, and what a program that runs them prints.
+//!
+//! A case is ten bytes, then its sheet and its rule table. Byte 0 says what is
+//! run: 0 the press, 1 the replay, 2 the replay shown record by record. Byte 1
+//! is zero. Then come four numbers of two bytes, little-endian: bytes of the
+//! sheet, bytes of the rule table, bytes of room or the number of slots, bytes
+//! of marks or zero.
+//!
+//! What is printed is, for each case, its number and these four numbers, and
+//! then the answer's line (`text`). After a press come the output and the
+//! marks, if it is accepted, and whether all that they may not touch is
+//! untouched. Of a replay that is shown, each record has a line: `taken` or
+//! `refused <number> <record>`, and the tally and the slots then. After a
+//! refused record there is none.
+
+use crate::cases::{draw, Case, Size};
+use crate::lengths::{check_inputs, LINE, RECORD, REPLAY_RECORDS};
+use crate::press::press;
+use crate::replay::{replay, step, Slot, Tally};
+use crate::text::{hex, pressed_line, refused, replayed_line, trace_line};
+
+/// The most that a program that runs a stream has memory for.
+pub const SHEET: usize = 24_600;
+pub const RULES: usize = 16_400;
+pub const ROOM: usize = 24_612;
+pub const MARKS: usize = 1_084;
+
+/// What output and marks hold before a press.
+const OLD: u8 = 0xA5;
+
+/// A case of a stream. `shown` asks of a replay that each record is shown.
+#[derive(Clone)]
+pub struct Entry {
+    pub case: Case,
+    pub shown: bool,
+}
+
+/// What a program is run on, and what it has to print.
+#[derive(Default)]
+pub struct Stream {
+    pub stdin: Vec<u8>,
+    pub stdout: String,
+}
+
+pub fn of(entries: &[Entry]) -> Stream {
+    let mut stream = Stream::default();
+    for (number, entry) in entries.iter().enumerate() {
+        assert!(fits(&entry.case), "case {number} is too long for a stream");
+        stream.stdin.extend(bytes(entry));
+        stream.stdout += &printed(number, entry);
+    }
+    stream
+}
+
+/// Cases of `cases::draw`: one in twelve of any size, the others small. Of the
+/// small replays two in three are shown.
+pub fn random(seed: u64, count: u64) -> Vec<Entry> {
+    let size = |index: u64| match index % 12 {
+        0 => Size::Any,
+        _ => Size::Small,
+    };
+    let entry = |index: u64| Entry {
+        case: draw(seed, index, size(index)),
+        shown: size(index) == Size::Small && index % 3 != 0,
+    };
+    let entries = (0..).map(entry).filter(|entry| fits(&entry.case));
+    entries.take(count as usize).collect()
+}
+
+pub fn fits(case: &Case) -> bool {
+    let (sheet, rules, room, marks) = parts(case);
+    sheet.len() <= SHEET && rules.len() <= RULES && room <= ROOM && marks <= MARKS
+}
+
+/// Sheet, rule table, room or slots, marks or zero.
+fn parts(case: &Case) -> (&[u8], &[u8], usize, usize) {
+    match case {
+        Case::Press {
+            sheet,
+            rules,
+            room,
+            marks,
+        } => (sheet, rules, *room, *marks),
+        Case::Replay {
+            sheet,
+            rules,
+            slots,
+        } => (sheet, rules, *slots, 0),
+    }
+}
+
+fn bytes(entry: &Entry) -> Vec<u8> {
+    let (sheet, rules, room, marks) = parts(&entry.case);
+    let kind = match (&entry.case, entry.shown) {
+        (Case::Press { .. }, _) => 0,
+        (Case::Replay { .. }, false) => 1,
+        (Case::Replay { .. }, true) => 2,
+    };
+    let mut bytes = vec![kind, 0];
+    for number in [sheet.len(), rules.len(), room, marks] {
+        bytes.extend((number as u16).to_le_bytes());
+    }
+    bytes.extend(sheet);
+    bytes.extend(rules);
+    bytes
+}
+
+fn printed(number: usize, entry: &Entry) -> String {
+    let (sheet, rules, room, marks) = parts(&entry.case);
+    let (word, answer) = match &entry.case {
+        Case::Press { .. } => ("press", pressed(sheet, rules, room, marks)),
+        Case::Replay { .. } => ("replay", replayed(sheet, rules, room, entry.shown)),
+    };
+    let lengths = format!("{} {} {room} {marks}", sheet.len(), rules.len());
+    format!("case {number} {word} {lengths}\n{answer}")
+}
+
+fn pressed(sheet: &[u8], rules: &[u8], room: usize, marks: usize) -> String {
+    let mut out = vec![OLD; room];
+    let mut marks = vec![OLD; marks];
+    let (answer, records, lines) = match press(sheet, rules, &mut out, &mut marks) {
+        Err(refusal) => (refused(&refusal), 0, 0),
+        Ok(pressed) => {
+            let (records, lines) = (pressed.records * RECORD, rules.len() / LINE);
+            let memory = format!(
+                "out {}\nmarks {}\n",
+                hex(&out[..records]),
+                hex(&marks[..lines])
+            );
+            (pressed_line(&pressed) + &memory, records, lines)
+        }
+    };
+    let mut beyond = out[records..].iter().chain(&marks[lines..]);
+    let word = if beyond.all(|&byte| byte == OLD) {
+        "untouched"
+    } else {
+        "touched"
+    };
+    format!("{answer}{word}\n")
+}
+
+fn replayed(sheet: &[u8], rules: &[u8], slots: usize, shown: bool) -> String {
+    let mut row = vec![Slot::default(); slots];
+    let answer = match replay(sheet, rules, &mut row) {
+        Err(refusal) => refused(&refusal),
+        Ok(replayed) => replayed_line(&replayed),
+    };
+    if shown && check_inputs(sheet.len(), rules.len(), REPLAY_RECORDS).is_ok() {
+        return answer + &records(sheet, rules, slots);
+    }
+    answer
+}
+
+/// A line for each record, up to one that is refused.
+fn records(sheet: &[u8], rules: &[u8], slots: usize) -> String {
+    let mut row = vec![Slot::default(); slots];
+    let mut tally = Tally::default();
+    let mut lines = String::new();
+    for (record, bytes) in sheet.chunks_exact(RECORD).enumerate() {
+        let answer = step(&mut tally, &mut row, bytes, rules);
+        let word = match answer {
+            Ok(()) => "taken".to_string(),
+            Err(number) => format!("refused {number} {record}"),
+        };
+        lines += &format!("{word} {}", trace_line(&tally, &row));
+        if answer.is_err() {
+            break;
+        }
+    }
+    lines
+}

@@ -1,0 +1,180 @@
+//! The table under "When the gate stays shut", its order, and drop records.
+
+use super::{both, pair_with, press, press_in, pressed, replay};
+use crate::lengths::{LINE, RECORD};
+use crate::record::Record;
+use crate::sheets::{dropped, given, pair, rules, sheet, step};
+use crate::stream::Entry;
+
+/// "Checks 1 to 5 come first, in number order, and report record 0."
+pub fn lengths() -> Vec<Entry> {
+    let (pair_sheet, pair_rules) = pair();
+    let ragged_rules = &pair_rules[..31];
+    let long = vec![0; 1024 * RECORD];
+    let ragged_long = vec![0; 1024 * RECORD + 1];
+    let long_rules = [0; 1025 * LINE];
+    [
+        // 1, with a table that is 4
+        both(&pair_sheet[..71], ragged_rules, 3),
+        // 2, with a table that is 4
+        both(&[], ragged_rules, 3),
+        vec![
+            // 1, of a sheet that is over-long as well
+            press_in(&ragged_long, ragged_rules, 0, 0),
+            replay(&ragged_long, ragged_rules, 0),
+            // 3, with a table that is 4
+            press_in(&long, ragged_rules, 0, 0),
+            replay(&long, ragged_rules, 0),
+            // 4: over 1,024 lines; with no room
+            press_in(&pair_sheet, &long_rules, 120, 1084),
+            replay(&pair_sheet, &long_rules, 3),
+            press_in(&pair_sheet, ragged_rules, 0, 0),
+            // 5, with a bad record
+            press_in(&pair_with(&[(0, 0, 9)]), &pair_rules, 0, 0),
+        ],
+        // 4: not a multiple of 16
+        both(&pair_sheet, ragged_rules, 3),
+        // an empty table passes 4, and every given is then 13
+        both(&pair_sheet, &[], 3),
+    ]
+    .concat()
+}
+
+/// "The first bad record answers, with the smallest number that applies."
+pub fn fields() -> Vec<Entry> {
+    let (_, table) = pair();
+    let spoilt: [&[(usize, usize, u8)]; 25] = [
+        // 6: kinds 0, 4 and 255
+        &[(1, 0, 0)],
+        &[(1, 0, 4)],
+        &[(1, 0, 255)],
+        // 7: each byte of a given and of a step that must be zero
+        &[(0, 1, 1)],
+        &[(0, 2, 1)],
+        &[(0, 3, 1)],
+        &[(0, 4, 1)],
+        &[(1, 5, 1)],
+        &[(2, 6, 1)],
+        &[(2, 7, 1)],
+        // 8
+        &[(2, 1, 255)],
+        // 11: +p missing on the left, -p on the right
+        &[(2, 1, 1)],
+        &[(2, 2, 1)],
+        &[(2, 4, 0)],
+        // 12: a literal too many
+        &[(2, 23, 0x80)],
+        &[(2, 8, 1)],
+        // 13, which keeps 14 from being looked at
+        &[(0, 6, 2)],
+        &[(1, 7, 1)],
+        // 14
+        &[(0, 6, 1)],
+        &[(1, 15, 1)],
+        // two bad records; one record that is bad in several ways
+        &[(1, 8, 1), (2, 0, 0)],
+        &[(2, 8, 1), (2, 1, 200), (2, 2, 9)],
+        &[(2, 8, 1), (2, 4, 2)],
+        &[(2, 8, 1), (2, 4, 0)],
+        &[(1, 5, 1), (1, 6, 9)],
+    ];
+    let of = |changes: &&[_]| both(&pair_with(changes), &table, 3);
+    spoilt.iter().flat_map(of).collect()
+}
+
+/// 15 comes after all the others: bad records in a full row, and a good one.
+pub fn full_row() -> Vec<Entry> {
+    let (_, table) = pair();
+    vec![
+        replay(&pair_with(&[(0, 6, 1)]), &table, 0),
+        replay(&pair_with(&[(2, 8, 1)]), &table, 2),
+        replay(&pair_with(&[(2, 0, 9)]), &table, 2),
+        replay(&pair_with(&[]), &table, 2),
+    ]
+}
+
+pub fn rule_lines() -> Vec<Entry> {
+    let (zero, one) = (|| given(0, "+0 -0"), || given(1, "+0 -0"));
+    let both_lines = rules(&["+0 -0", "+0 -0"]);
+    let joined = || step(0, 0, 1, "+0 -0");
+    let empty = || given(0, "");
+    [
+        // a line of zeros is the empty clause: its slot is all zero but for the mark of use
+        both(&sheet(&[empty()]), &rules(&[""]), 1),
+        vec![replay(
+            &sheet(&[empty(), empty(), dropped(0)]),
+            &rules(&[""]),
+            2,
+        )],
+        // two lines with one clause count twice; two given records of one line once
+        both(&sheet(&[zero(), one(), joined()]), &both_lines, 3),
+        both(&sheet(&[one(), one(), joined()]), &both_lines, 3),
+    ]
+    .concat()
+}
+
+fn plus() -> Record {
+    given(0, "+0")
+}
+
+fn minus() -> Record {
+    given(1, "-0")
+}
+
+fn replayed(records: &[Record], slots: usize) -> Entry {
+    let (_, table) = pair();
+    replay(&sheet(records), &table, slots)
+}
+
+/// Dropped nodes that are named.
+pub fn drops() -> Vec<Entry> {
+    vec![
+        // a first record that is a drop; a drop of the next node
+        replayed(&[dropped(0)], 2),
+        replayed(&[plus(), dropped(1)], 2),
+        // a drop of a dropped node
+        replayed(&[plus(), minus(), dropped(0), dropped(0)], 2),
+        // one parent dropped and the other not earlier is 9
+        replayed(&[plus(), minus(), dropped(0), step(0, 0, 7, "")], 2),
+        replayed(&[plus(), minus(), dropped(1), step(0, 7, 1, "")], 2),
+        // a step with a dropped right parent
+        replayed(&[plus(), minus(), dropped(1), step(0, 0, 1, "")], 2),
+    ]
+}
+
+/// 16 looks at the last node, and reports the count of records. A drop needs no
+/// slot, and a dropped node's slot is used again.
+pub fn ends() -> Vec<Entry> {
+    vec![
+        replayed(&[plus(), dropped(0), plus(), dropped(1), plus()], 1),
+        replayed(&[plus(), dropped(0), plus(), dropped(1)], 1),
+        replayed(&[plus(), minus(), dropped(0)], 2),
+        replayed(&[plus(), minus(), dropped(1)], 2),
+    ]
+}
+
+/// A drop is 6 for the press, malformed too. So is a pressed sheet, unless it
+/// has one record.
+pub fn drops_for_the_press() -> Vec<Entry> {
+    let (pair_sheet, table) = pair();
+    let mut malformed = sheet(&[plus(), dropped(9)]);
+    malformed[RECORD + 23] = 1;
+    let mut tries = vec![
+        press(&sheet(&[plus(), minus(), dropped(0)]), &table),
+        press(&pressed(&pair_sheet, &table), &table),
+        press(&pressed(&sheet(&[plus()]), &table), &table),
+    ];
+    tries.extend(both(&malformed, &table, 2));
+    tries
+}
+
+/// Each byte of a drop that must be zero.
+pub fn bytes_of_a_drop() -> Vec<Entry> {
+    let (pair_sheet, table) = pair();
+    let of = |at: usize| {
+        let mut spoilt = pressed(&pair_sheet, &table);
+        spoilt[3 * RECORD + at] = 0x80;
+        replay(&spoilt, &table, 3)
+    };
+    (1..2).chain(4..24).map(of).collect()
+}
