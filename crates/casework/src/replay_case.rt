@@ -1,13 +1,12 @@
 // A case of the replay: its answer; and for one that is shown, what stands after each record.
 use crate::text;
-use replay::answer::ReplayAnswer;
-use replay::answer::Replayed;
-use replay::look;
 use sheet::SlotNo;
 use sheet::Verdict;
 use step::Slot;
 use step::StepAnswer;
 use step::Tally;
+use step::answer::ReplayAnswer;
+use step::answer::Replayed;
 
 fn print_replayed(r: Replayed) {
     text::print_ok(r.conclusion);

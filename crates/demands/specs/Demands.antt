@@ -16,11 +16,11 @@ use Rattle.step.specs.declared.Slot.{Slot as LentSlot}
 use Rattle.step.specs.declared.Tally.{Tally as LentTally}
 use Rattle.step.specs.declared.StepAnswer.{StepAnswer}
 use Rattle.step.specs.Said.{tallyOf, rowOf, saidOfStep}
-use Rattle.replay.specs.declared.answer.ReplayAnswer.{ReplayAnswer}
+use Rattle.step.specs.declared.answer.ReplayAnswer.{ReplayAnswer}
 use Rattle.replaying.specs.Slots.{Slot}
 use Rattle.replaying.specs.Step.{state, stepped, oneStep}
 use Rattle.replaying.specs.Replay as Replay
-use Rattle.replay.specs.Said as ReplaySaid
+use Rattle.step.specs.Answers as ReplaySaid
 use Rattle.press.specs.declared.PressAnswer.{PressAnswer}
 use Rattle.pressing.specs.Press as Press
 use Rattle.press.specs.Said as PressSaid

@@ -5,9 +5,9 @@ ghost use Rattle.pressing.specs.Press.{press};
 ghost use Rattle.demands.specs.Shipping.{ship, saidOfShipment};
 use press::PressAnswer;
 use press::Pressed;
-use replay::answer::ReplayAnswer;
 use sheet::Reason;
 use sheet::RecordNo;
+use step::answer::ReplayAnswer;
 
 // The press refused; or what it reported, and what the replay of its output answered.
 pub enum Shipment {

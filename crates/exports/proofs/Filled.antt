@@ -15,10 +15,10 @@ use Rattle.press.specs.Said.{said}
 use Rattle.replaying.specs.Replay.{Outcome as ReplayOutcome, outcome as replay-outcome}
 use Rattle.step.specs.declared.Slot.{Slot}
 use Rattle.step.specs.Said.{rowOf}
-use Rattle.replay.specs.declared.answer.Replayed.{Replayed}
-use Rattle.replay.specs.declared.answer.ReplayAnswer.{ReplayAnswer}
-use Rattle.replay.specs.declared.answer.ReplayAnswer.the-variants as A
-use Rattle.replay.specs.Said.{said as said-of-replay}
+use Rattle.step.specs.declared.answer.Replayed.{Replayed}
+use Rattle.step.specs.declared.answer.ReplayAnswer.{ReplayAnswer}
+use Rattle.step.specs.declared.answer.ReplayAnswer.the-variants as A
+use Rattle.step.specs.Answers.{said as said-of-replay}
 use Rattle.exports.specs.Report.{fill, pressCode, pressWords, replayCode, replayWords}
 
 pub four-filled : (i j k l a b c d : ℕ) (r r₁ r₂ r₃ r₄ : List ℕ) → j ≡ i + 1 → k ≡ i + 2 → l ≡ i + 3

@@ -7,12 +7,12 @@ ghost use Rattle.sheet.specs.Editions.{narrow};
 ghost use Rattle.pressing.specs.Press.{press};
 ghost use Rattle.press.specs.Said.{said};
 ghost use Rattle.replaying.specs.Replay.{replay};
-ghost use Rattle.replay.specs.Said.{said as saidOfReplay};
+ghost use Rattle.step.specs.Answers.{said as saidOfReplay};
 ghost use Rattle.step.specs.Said.{rowOf};
 ghost use Rattle.exports.specs.Report.{fill, pressCode, pressWords, replayCode, replayWords};
 use press::PressAnswer;
-use replay::answer::ReplayAnswer;
 use step::Slot;
+use step::answer::ReplayAnswer;
 
 // A word of the report, where there is room for it.
 fn put(report: &mut [u64], i: usize, word: u64)

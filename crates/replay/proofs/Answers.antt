@@ -48,26 +48,26 @@ use Rattle.step.proofs.Found as F
 use Rattle.step.proofs.Found.Laws as F′
 use Rattle.step.proofs.StepAnswer as S
 use Rattle.step.proofs.StepAnswer.Laws as S′
-use Rattle.replay.specs.declared.answer.ReplayAnswer.{ReplayAnswer}
-use Rattle.replay.specs.Said.{said, isTaken}
-use Rattle.replay.proofs.answer.ReplayAnswer as B
-use Rattle.replay.proofs.answer.ReplayAnswer.Laws as B′
-use Rattle.replay.proofs.Cells.{fv}
+use Rattle.step.specs.declared.answer.ReplayAnswer.{ReplayAnswer}
+use Rattle.step.specs.Answers.{said, isTaken}
+use Rattle.step.proofs.answer.ReplayAnswer as B
+use Rattle.step.proofs.answer.ReplayAnswer.Laws as B′
+use Rattle.row.proofs.Cells.{fv}
 use Rattle.replay.proofs.Values.{tally-val, step-val, answer-val, verdict-val, node-val}
-use Rattle.replay.proofs.answer.nothing as nothing′
-use Rattle.replay.proofs.answer.nothing.Symbol.{name as #nothing}
-use Rattle.replay.proofs.answer.is_taken as taken′
-use Rattle.replay.proofs.answer.is_taken.Symbol.{name as #taken}
-use Rattle.replay.proofs.answer.stopped as stopped′
-use Rattle.replay.proofs.answer.stopped.Symbol.{name as #stopped}
-use Rattle.replay.proofs.answer.last_of as last′
-use Rattle.replay.proofs.answer.last_of.Symbol.{name as #last}
-use Rattle.replay.proofs.answer.end as end′
-use Rattle.replay.proofs.answer.end.Symbol.{name as #end}
-use Rattle.replay.proofs.answer.passes as passes′
-use Rattle.replay.proofs.answer.passes.Symbol.{name as #passes}
-use Rattle.replay.proofs.answer.refused as refused′
-use Rattle.replay.proofs.answer.refused.Symbol.{name as #refused}
+use Rattle.step.proofs.answer.nothing as nothing′
+use Rattle.step.proofs.answer.nothing.Symbol.{name as #nothing}
+use Rattle.step.proofs.answer.is_taken as taken′
+use Rattle.step.proofs.answer.is_taken.Symbol.{name as #taken}
+use Rattle.step.proofs.answer.stopped as stopped′
+use Rattle.step.proofs.answer.stopped.Symbol.{name as #stopped}
+use Rattle.step.proofs.answer.last_of as last′
+use Rattle.step.proofs.answer.last_of.Symbol.{name as #last}
+use Rattle.step.proofs.answer.end as end′
+use Rattle.step.proofs.answer.end.Symbol.{name as #end}
+use Rattle.step.proofs.answer.passes as passes′
+use Rattle.step.proofs.answer.passes.Symbol.{name as #passes}
+use Rattle.step.proofs.answer.refused as refused′
+use Rattle.step.proofs.answer.refused.Symbol.{name as #refused}
 
 module _ {M : Type 1} (𝓤 : URA M) (H : Heap 𝓤) (A : Atoms 𝓤) (mem : Memory → SProp 𝓤) (run : Routine → Fun 𝓤) where
   abbrev pub Nothing : Contract 𝓤

@@ -1,8 +1,6 @@
 pub mod Answers
-pub mod Cells
 pub mod Going
 pub mod Owned
-pub mod Prims
 pub mod Running
 pub mod Stepping
 pub mod Unique

@@ -41,10 +41,10 @@ use Rattle.replaying.specs.Replay.{run as runs-to}
 use Rattle.step.specs.declared.Slot.{Slot}
 use Rattle.step.specs.Said.{rowOf}
 use Rattle.step.proofs.Slot as T
-use Rattle.replay.specs.declared.answer.ReplayAnswer.{ReplayAnswer}
-use Rattle.replay.specs.Said.{said}
-use Rattle.replay.proofs.answer.ReplayAnswer as B
-use Rattle.replay.proofs.answer.ReplayAnswer.Laws as B′
+use Rattle.step.specs.declared.answer.ReplayAnswer.{ReplayAnswer}
+use Rattle.step.specs.Answers.{said}
+use Rattle.step.proofs.answer.ReplayAnswer as B
+use Rattle.step.proofs.answer.ReplayAnswer.Laws as B′
 use Rattle.replay.proofs.Values.{answer-val}
 use Rattle.replay.proofs.run.run as run′
 use Rattle.replay.proofs.run.run.Symbol.{name as #run}

@@ -11,11 +11,9 @@ use Rattle.step.specs.declared.Tally.{Tally as CodeTally}
 use Rattle.step.specs.declared.StepAnswer.{StepAnswer}
 use Rattle.step.specs.declared.StepAnswer.the-variants as S
 use Rattle.step.specs.Said.{slotOf, rowOf, tallyOf, saidOfStep}
-use Rattle.replay.specs.declared.answer.ReplayAnswer.{ReplayAnswer}
-use Rattle.replay.specs.declared.answer.ReplayAnswer.the-variants as A
-use Rattle.replay.specs.declared.look.Look.{Look as CodeLook}
-use Rattle.replay.specs.Said.{said}
-use Rattle.replay.specs.Look.{Look, lookOf}
+use Rattle.step.specs.declared.answer.ReplayAnswer.{ReplayAnswer}
+use Rattle.step.specs.declared.answer.ReplayAnswer.the-variants as A
+use Rattle.step.specs.Answers.{said}
 
 pub said-injective : (r₁ r₂ : ReplayAnswer) → said r₁ ≡ said r₂ → r₁ ≡ r₂
 unfolding said
@@ -95,12 +93,3 @@ replay-unique o r₁ r₂ ys zs p q =
       said-injective r₁ r₂ (ap (λ (x : Outcome). x .answer) e),
       rowOf-injective ys zs (ap (λ (x : Outcome). x .slots) e),
     )
-
--- and two looks that a look's promise admits
-pub look-unique : (o : Look) (r₁ r₂ : CodeLook) → lookOf r₁ ≡ o → lookOf r₂ ≡ o → r₁ ≡ r₂
-look-unique o r₁ r₂ p q =
-    let e = p ∙ sym q in
-    let a = saidOfStep-injective (r₁ .answer) (r₂ .answer) (ap (λ (x : Look). x .answer) e) in
-    let t = tallyOf-injective (r₁ .tally) (r₂ .tally) (ap (λ (x : Look). x .tally) e) in
-    let s = slotOf-injective (r₁ .slot) (r₂ .slot) (ap (λ (x : Look). x .slot) e) in
-    λ i. record { answer = a i; tally = t i; slot = s i }

@@ -28,13 +28,10 @@ use Rattle.step.proofs.StepAnswer as S
 use Rattle.step.proofs.StepAnswer.Laws as S′
 use Rattle.step.proofs.check.Names as P
 use Rattle.step.proofs.check.Names.Laws as P′
-use Rattle.replay.specs.declared.answer.ReplayAnswer.{ReplayAnswer}
-use Rattle.replay.proofs.answer.ReplayAnswer as B
-use Rattle.replay.proofs.answer.ReplayAnswer.Laws as B′
-use Rattle.replay.specs.declared.look.Look.{Look}
-use Rattle.replay.proofs.look.Look as L
-use Rattle.replay.proofs.look.Look.Laws as L′
-use Rattle.replay.proofs.Cells.{gv}
+use Rattle.step.specs.declared.answer.ReplayAnswer.{ReplayAnswer}
+use Rattle.step.proofs.answer.ReplayAnswer as B
+use Rattle.step.proofs.answer.ReplayAnswer.Laws as B′
+use Rattle.row.proofs.Cells.{gv}
 
 abbrev pub tally-val : Tally → Val
 tally-val = LL.val Y.the-type Y′.the-laws
@@ -50,9 +47,6 @@ names-val = LL.val P.the-type P′.the-laws
 
 abbrev pub answer-val : ReplayAnswer → Val
 answer-val = EL.val B.the-type B′.the-laws
-
-abbrev pub look-val : Look → Val
-look-val = LL.val L.the-type L′.the-laws
 
 abbrev pub verdict-val : Verdict → Val
 verdict-val = EL.val J.the-type J′.the-laws

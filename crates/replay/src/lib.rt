@@ -4,17 +4,15 @@ ghost use Rattle.sheet.specs.Editions.{narrow};
 ghost use Rattle.replaying.specs.Step.{state, stepped, oneStep};
 ghost use Rattle.replaying.specs.Replay.{outcome, replay};
 ghost use Rattle.step.specs.Said.{saidOfStep, tallyOf, rowOf};
-ghost use Rattle.replay.specs.Said.{said};
+ghost use Rattle.step.specs.Answers.{said};
 use sheet::RecordNo;
 use step::Slot;
 use step::Sought;
 use step::StepAnswer;
 use step::Tally;
+use step::answer;
 
-pub mod answer;
-pub mod look;
 pub mod own;
-pub mod row;
 pub mod run;
 
 // One record: it is looked up, decided on, put into the row or out of it, and counted.

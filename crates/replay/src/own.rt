@@ -6,8 +6,8 @@ ghost use lib.ListN.{replicate};
 ghost use Rattle.sheet.specs.Editions.{narrow};
 ghost use Rattle.replaying.specs.Slots.{empty};
 ghost use Rattle.replaying.specs.Replay.{replay};
-ghost use Rattle.replay.specs.Said.{said};
-use crate::answer::ReplayAnswer;
+ghost use Rattle.step.specs.Answers.{said};
+use step::answer::ReplayAnswer;
 
 // At most 1,023.
 pub fn enough(slots: usize) -> usize

@@ -8,13 +8,12 @@ ghost use Rattle.sheet.specs.Checks.{checkLengths};
 ghost use Rattle.replaying.specs.Step.{tally, state};
 ghost use Rattle.replaying.specs.Replay.{run};
 ghost use Rattle.step.specs.Said.{rowOf};
-ghost use Rattle.replay.specs.Said.{said};
-use crate::answer;
-use crate::answer::ReplayAnswer;
-use crate::row;
+ghost use Rattle.step.specs.Answers.{said};
 use sheet::RecordNo;
 use step::Slot;
 use step::Sought;
+use step::answer;
+use step::answer::ReplayAnswer;
 
 pub fn run(sheet: &[u8], rules: &[u8], slots: &mut [Slot]) -> ReplayAnswer
     requires { ⌜ checkLengths narrow (replayRecords narrow) (length (now sheet)) (length (now rules)) ≡ Fine ⌝ }

@@ -23,6 +23,7 @@ use sheet::RecordNo;
 use sheet::SlotNo;
 use sheet::Verdict;
 
+pub mod answer;
 pub mod check;
 
 // A slot of the row: a mark of use (not zero: in use), a node's number, and its clause's two sets. A free slot is all zero.

@@ -42,10 +42,10 @@ use Rattle.replaying.specs.Replay.{outcome, replay as replayed}
 use Rattle.step.specs.declared.Slot.{Slot}
 use Rattle.step.specs.Said.{rowOf}
 use Rattle.step.proofs.Slot as T
-use Rattle.replay.specs.declared.answer.ReplayAnswer.{ReplayAnswer}
-use Rattle.replay.specs.Said.{said}
-use Rattle.replay.proofs.answer.ReplayAnswer as B
-use Rattle.replay.proofs.answer.ReplayAnswer.Laws as B′
+use Rattle.step.specs.declared.answer.ReplayAnswer.{ReplayAnswer}
+use Rattle.step.specs.Answers.{said}
+use Rattle.step.proofs.answer.ReplayAnswer as B
+use Rattle.step.proofs.answer.ReplayAnswer.Laws as B′
 use Rattle.replay.proofs.replay as replay′
 use Rattle.replay.proofs.replay.Symbol as replay-def
 use Rattle.replay.proofs.replay.Symbol.{name as #replay}

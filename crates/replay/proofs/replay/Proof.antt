@@ -60,24 +60,24 @@ use Rattle.replaying.specs.Replay.{refused, outcome, replay}
 use Rattle.step.specs.declared.Slot.{Slot}
 use Rattle.step.specs.Said.{rowOf}
 use Rattle.step.proofs.Slot as T
-use Rattle.replay.specs.declared.answer.ReplayAnswer.{ReplayAnswer}
-use Rattle.replay.specs.Said.{said}
-use Rattle.replay.proofs.answer.ReplayAnswer as B
-use Rattle.replay.proofs.answer.ReplayAnswer.Laws as B′
+use Rattle.step.specs.declared.answer.ReplayAnswer.{ReplayAnswer}
+use Rattle.step.specs.Answers.{said}
+use Rattle.step.proofs.answer.ReplayAnswer as B
+use Rattle.step.proofs.answer.ReplayAnswer.Laws as B′
 use Rattle.replay.proofs.Values.{answer-val, verdict-val}
-use Rattle.replay.proofs.Prims.{Clear, call-clear}
+use Rattle.row.proofs.Prims.{Clear, call-clear}
 use Rattle.replay.proofs.Answers.{Passes, Refuses, call-passes, call-refused}
 use Rattle.replay.proofs.Running.{Run, call-run}
 use Rattle.replay.proofs.Whole.{cleared-length, fine-is, comes-fine, comes-refused}
-use Rattle.replay.proofs.answer.passes.Symbol as passes-def
-use Rattle.replay.proofs.answer.passes.Symbol.{name as #passes}
-use Rattle.replay.proofs.answer.passes.Met as passes-thm
-use Rattle.replay.proofs.answer.refused.Symbol as refused-def
-use Rattle.replay.proofs.answer.refused.Symbol.{name as #refused}
-use Rattle.replay.proofs.answer.refused.Met as refused-thm
-use Rattle.replay.proofs.row.clear.Symbol as clear-def
-use Rattle.replay.proofs.row.clear.Symbol.{name as #clear}
-use Rattle.replay.proofs.row.clear.Met as clear-thm
+use Rattle.step.proofs.answer.passes.Symbol as passes-def
+use Rattle.step.proofs.answer.passes.Symbol.{name as #passes}
+use Rattle.step.proofs.answer.passes.Met as passes-thm
+use Rattle.step.proofs.answer.refused.Symbol as refused-def
+use Rattle.step.proofs.answer.refused.Symbol.{name as #refused}
+use Rattle.step.proofs.answer.refused.Met as refused-thm
+use Rattle.row.proofs.clear.Symbol as clear-def
+use Rattle.row.proofs.clear.Symbol.{name as #clear}
+use Rattle.row.proofs.clear.Met as clear-thm
 use Rattle.replay.proofs.run.run.Symbol as run-def
 use Rattle.replay.proofs.run.run.Symbol.{name as #run}
 use Rattle.replay.proofs.run.run.Met as run-thm
@@ -231,8 +231,8 @@ replay-spec 𝓤 H 𝓜 𝓖 𝓡 =
     (meets 𝓤 H (𝓖 .A) (givenOf 𝓤 H 𝓜 𝓖) (𝓜 .mem) (𝓡 .run) (tablesOf 𝓤 H 𝓜 (tables 𝓤 H 𝓜 𝓡 code.env))
     (record {
       lengths = cited 𝓤 H (Lengths 𝓤 H (𝓖 .A) (𝓜 .mem) (𝓡 .run)) 𝓜 𝓡 code.env #lengths lengths-def.routine code.calls-sheet·checks·check-lengths (lengths-thm.met 𝓤 H 𝓜 𝓖 𝓡);
-      passes = cited 𝓤 H (Passes 𝓤 H (𝓖 .A) (𝓜 .mem) (𝓡 .run)) 𝓜 𝓡 code.env #passes passes-def.routine code.calls-replay·answer·passes (passes-thm.met 𝓤 H 𝓜 𝓖 𝓡);
-      clear = cited 𝓤 H (Clear 𝓤 H (𝓖 .A) (𝓜 .mem) (𝓡 .run)) 𝓜 𝓡 code.env #clear clear-def.routine code.calls-replay·row·clear (clear-thm.met 𝓤 H 𝓜 𝓖 𝓡);
+      passes = cited 𝓤 H (Passes 𝓤 H (𝓖 .A) (𝓜 .mem) (𝓡 .run)) 𝓜 𝓡 code.env #passes passes-def.routine code.calls-step·answer·passes (passes-thm.met 𝓤 H 𝓜 𝓖 𝓡);
+      clear = cited 𝓤 H (Clear 𝓤 H (𝓖 .A) (𝓜 .mem) (𝓡 .run)) 𝓜 𝓡 code.env #clear clear-def.routine code.calls-row·clear (clear-thm.met 𝓤 H 𝓜 𝓖 𝓡);
       runs-it = cited 𝓤 H (Run 𝓤 H (𝓖 .A) (𝓜 .mem) (𝓡 .run)) 𝓜 𝓡 code.env #run run-def.routine code.calls-replay·run·run (run-thm.met 𝓤 H 𝓜 𝓖 𝓡);
-      refused = cited 𝓤 H (Refuses 𝓤 H (𝓖 .A) (𝓜 .mem) (𝓡 .run)) 𝓜 𝓡 code.env #refused refused-def.routine code.calls-replay·answer·refused (refused-thm.met 𝓤 H 𝓜 𝓖 𝓡);
+      refused = cited 𝓤 H (Refuses 𝓤 H (𝓖 .A) (𝓜 .mem) (𝓡 .run)) 𝓜 𝓡 code.env #refused refused-def.routine code.calls-step·answer·refused (refused-thm.met 𝓤 H 𝓜 𝓖 𝓡);
     }))

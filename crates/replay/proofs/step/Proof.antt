@@ -83,15 +83,15 @@ use Rattle.step.proofs.decide as decide′
 use Rattle.step.proofs.decide.Symbol as decide-def
 use Rattle.step.proofs.decide.Symbol.{name as #decide}
 use Rattle.step.proofs.decide.Met as decide-thm
-use Rattle.replay.proofs.Cells.{fv}
+use Rattle.row.proofs.Cells.{fv}
 use Rattle.replay.proofs.Values.{tally-val, decided-val, step-val, names-val, record-val, node-is, free-is}
-use Rattle.replay.proofs.Prims.{Find, Put, call-find, call-put}
-use Rattle.replay.proofs.row.find.Symbol as find-def
-use Rattle.replay.proofs.row.find.Symbol.{name as #find}
-use Rattle.replay.proofs.row.find.Met as find-thm
-use Rattle.replay.proofs.row.put.Symbol as put-def
-use Rattle.replay.proofs.row.put.Symbol.{name as #put}
-use Rattle.replay.proofs.row.put.Met as put-thm
+use Rattle.row.proofs.Prims.{Find, Put, call-find, call-put}
+use Rattle.row.proofs.find.Symbol as find-def
+use Rattle.row.proofs.find.Symbol.{name as #find}
+use Rattle.row.proofs.find.Met as find-thm
+use Rattle.row.proofs.put.Symbol as put-def
+use Rattle.row.proofs.put.Symbol.{name as #put}
+use Rattle.row.proofs.put.Met as put-thm
 use Rattle.replay.proofs.step.Key.{name as #key}
 use Rattle.replay.proofs.step as f
 use Rattle.replay.proofs.step.Statement as stated
@@ -297,6 +297,6 @@ step-spec 𝓤 H 𝓜 𝓖 𝓡 =
     (tables 𝓤 H 𝓜 𝓡 code.env .C) (tables 𝓤 H 𝓜 𝓡 code.env .Λ) #key code.function (code.unfolded 𝓤 H 𝓜 𝓡)
     (meets 𝓤 H (𝓖 .A) (givenOf 𝓤 H 𝓜 𝓖) (𝓜 .mem) (𝓡 .run) (tablesOf 𝓤 H 𝓜 (tables 𝓤 H 𝓜 𝓡 code.env))
     (cited 𝓤 H (Reads 𝓤 H (𝓖 .A) (𝓜 .mem) (𝓡 .run)) 𝓜 𝓡 code.env #names-read names-def.routine code.calls-step·names-read (names-thm.met 𝓤 H 𝓜 𝓖 𝓡))
-    (cited 𝓤 H (Find 𝓤 H (𝓖 .A) (𝓜 .mem) (𝓡 .run)) 𝓜 𝓡 code.env #find find-def.routine code.calls-replay·row·find (find-thm.met 𝓤 H 𝓜 𝓖 𝓡))
+    (cited 𝓤 H (Find 𝓤 H (𝓖 .A) (𝓜 .mem) (𝓡 .run)) 𝓜 𝓡 code.env #find find-def.routine code.calls-row·find (find-thm.met 𝓤 H 𝓜 𝓖 𝓡))
     (cited 𝓤 H (Decides 𝓤 H (𝓖 .A) (𝓜 .mem) (𝓡 .run)) 𝓜 𝓡 code.env #decide decide-def.routine code.calls-step·decide (decide-thm.met 𝓤 H 𝓜 𝓖 𝓡))
-    (cited 𝓤 H (Put 𝓤 H (𝓖 .A) (𝓜 .mem) (𝓡 .run)) 𝓜 𝓡 code.env #put put-def.routine code.calls-replay·row·put (put-thm.met 𝓤 H 𝓜 𝓖 𝓡)))
+    (cited 𝓤 H (Put 𝓤 H (𝓖 .A) (𝓜 .mem) (𝓡 .run)) 𝓜 𝓡 code.env #put put-def.routine code.calls-row·put (put-thm.met 𝓤 H 𝓜 𝓖 𝓡)))

@@ -58,12 +58,12 @@ use Rattle.lending.proofs.Arrays.{repeat-is, array-part, part-array}
 use Rattle.lending.proofs.Calls.{call-plain}
 use Rattle.lending.proofs.Locals.{tyAt}
 use Rattle.lending.proofs.Rows.{rows, lend-row, row-back, freed}
-use Rattle.replay.specs.Said.{said}
-use Rattle.replay.specs.declared.answer.ReplayAnswer.{ReplayAnswer}
-use Rattle.replay.proofs.Prims.{sv, Empty}
+use Rattle.step.specs.Answers.{said}
+use Rattle.step.specs.declared.answer.ReplayAnswer.{ReplayAnswer}
+use Rattle.row.proofs.Prims.{sv, Empty}
 use Rattle.replay.proofs.Owned.{row-replicate, n≤, roomy}
-use Rattle.replay.proofs.answer.ReplayAnswer as R
-use Rattle.replay.proofs.answer.ReplayAnswer.Laws as R′
+use Rattle.step.proofs.answer.ReplayAnswer as R
+use Rattle.step.proofs.answer.ReplayAnswer.Laws as R′
 use Rattle.replay.proofs.own.enough as enough′
 use Rattle.replay.proofs.own.enough.Symbol as enough-def
 use Rattle.replay.proofs.own.enough.Symbol.{name as #enough}

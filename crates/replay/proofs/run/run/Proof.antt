@@ -83,36 +83,36 @@ use Rattle.step.proofs.Found as F
 use Rattle.step.proofs.Found.Laws as F′
 use Rattle.step.proofs.StepAnswer as S
 use Rattle.step.proofs.StepAnswer.Laws as S′
-use Rattle.replay.specs.declared.answer.ReplayAnswer.{ReplayAnswer}
-use Rattle.replay.specs.Said.{said}
-use Rattle.replay.proofs.answer.ReplayAnswer as B
-use Rattle.replay.proofs.answer.ReplayAnswer.Laws as B′
+use Rattle.step.specs.declared.answer.ReplayAnswer.{ReplayAnswer}
+use Rattle.step.specs.Answers.{said}
+use Rattle.step.proofs.answer.ReplayAnswer as B
+use Rattle.step.proofs.answer.ReplayAnswer.Laws as B′
 use Rattle.replay.proofs.Values.{tally-val, step-val, answer-val, record-val, node-is}
-use Rattle.replay.proofs.Prims.{Find, call-find}
+use Rattle.row.proofs.Prims.{Find, call-find}
 use Rattle.replay.proofs.Answers.{Nothing, Is-taken, Stopped, Last-of, End, call-nothing, call-taken, call-stopped, call-last, call-end}
 use Rattle.replay.proofs.Stepping.{Comes, Step, call-step}
 use Rattle.replay.proofs.Going.{Goes, goes-none, goes-all, goes-on, goes-no-more, lent, record-inside, count-fits, at-fits, end-fits, part-fits, at-inside, at-end}
-use Rattle.replay.proofs.answer.nothing.Symbol as nothing-def
-use Rattle.replay.proofs.answer.nothing.Symbol.{name as #nothing}
-use Rattle.replay.proofs.answer.nothing.Met as nothing-thm
-use Rattle.replay.proofs.answer.is_taken.Symbol as taken-def
-use Rattle.replay.proofs.answer.is_taken.Symbol.{name as #taken}
-use Rattle.replay.proofs.answer.is_taken.Met as taken-thm
-use Rattle.replay.proofs.answer.stopped.Symbol as stopped-def
-use Rattle.replay.proofs.answer.stopped.Symbol.{name as #stopped}
-use Rattle.replay.proofs.answer.stopped.Met as stopped-thm
-use Rattle.replay.proofs.answer.last_of.Symbol as last-def
-use Rattle.replay.proofs.answer.last_of.Symbol.{name as #last}
-use Rattle.replay.proofs.answer.last_of.Met as last-thm
-use Rattle.replay.proofs.answer.end.Symbol as end-def
-use Rattle.replay.proofs.answer.end.Symbol.{name as #end}
-use Rattle.replay.proofs.answer.end.Met as end-thm
+use Rattle.step.proofs.answer.nothing.Symbol as nothing-def
+use Rattle.step.proofs.answer.nothing.Symbol.{name as #nothing}
+use Rattle.step.proofs.answer.nothing.Met as nothing-thm
+use Rattle.step.proofs.answer.is_taken.Symbol as taken-def
+use Rattle.step.proofs.answer.is_taken.Symbol.{name as #taken}
+use Rattle.step.proofs.answer.is_taken.Met as taken-thm
+use Rattle.step.proofs.answer.stopped.Symbol as stopped-def
+use Rattle.step.proofs.answer.stopped.Symbol.{name as #stopped}
+use Rattle.step.proofs.answer.stopped.Met as stopped-thm
+use Rattle.step.proofs.answer.last_of.Symbol as last-def
+use Rattle.step.proofs.answer.last_of.Symbol.{name as #last}
+use Rattle.step.proofs.answer.last_of.Met as last-thm
+use Rattle.step.proofs.answer.end.Symbol as end-def
+use Rattle.step.proofs.answer.end.Symbol.{name as #end}
+use Rattle.step.proofs.answer.end.Met as end-thm
 use Rattle.replay.proofs.step.Symbol as step-def
 use Rattle.replay.proofs.step.Symbol.{name as #step}
 use Rattle.replay.proofs.step.Met as step-thm
-use Rattle.replay.proofs.row.find.Symbol as find-def
-use Rattle.replay.proofs.row.find.Symbol.{name as #find}
-use Rattle.replay.proofs.row.find.Met as find-thm
+use Rattle.row.proofs.find.Symbol as find-def
+use Rattle.row.proofs.find.Symbol.{name as #find}
+use Rattle.row.proofs.find.Met as find-thm
 use Rattle.replay.proofs.run.run.Key.{name as #key}
 use Rattle.replay.proofs.run.run as f
 use Rattle.replay.proofs.run.run.Statement as stated
@@ -377,11 +377,11 @@ run-spec 𝓤 H 𝓜 𝓖 𝓡 =
     (tables 𝓤 H 𝓜 𝓡 code.env .C) (tables 𝓤 H 𝓜 𝓡 code.env .Λ) #key code.function (code.unfolded 𝓤 H 𝓜 𝓡)
     (meets 𝓤 H (𝓖 .A) (givenOf 𝓤 H 𝓜 𝓖) (𝓜 .mem) (𝓡 .run) (tablesOf 𝓤 H 𝓜 (tables 𝓤 H 𝓜 𝓡 code.env))
     (record {
-      nothing = cited 𝓤 H (Nothing 𝓤 H (𝓖 .A) (𝓜 .mem) (𝓡 .run)) 𝓜 𝓡 code.env #nothing nothing-def.routine code.calls-replay·answer·nothing (nothing-thm.met 𝓤 H 𝓜 𝓖 𝓡);
+      nothing = cited 𝓤 H (Nothing 𝓤 H (𝓖 .A) (𝓜 .mem) (𝓡 .run)) 𝓜 𝓡 code.env #nothing nothing-def.routine code.calls-step·answer·nothing (nothing-thm.met 𝓤 H 𝓜 𝓖 𝓡);
       step = cited 𝓤 H (Step 𝓤 H (𝓖 .A) (𝓜 .mem) (𝓡 .run)) 𝓜 𝓡 code.env #step step-def.routine code.calls-replay·step (step-thm.met 𝓤 H 𝓜 𝓖 𝓡);
-      taken = cited 𝓤 H (Is-taken 𝓤 H (𝓖 .A) (𝓜 .mem) (𝓡 .run)) 𝓜 𝓡 code.env #taken taken-def.routine code.calls-replay·answer·is-taken (taken-thm.met 𝓤 H 𝓜 𝓖 𝓡);
-      stopped = cited 𝓤 H (Stopped 𝓤 H (𝓖 .A) (𝓜 .mem) (𝓡 .run)) 𝓜 𝓡 code.env #stopped stopped-def.routine code.calls-replay·answer·stopped (stopped-thm.met 𝓤 H 𝓜 𝓖 𝓡);
-      last = cited 𝓤 H (Last-of 𝓤 H (𝓖 .A) (𝓜 .mem) (𝓡 .run)) 𝓜 𝓡 code.env #last last-def.routine code.calls-replay·answer·last-of (last-thm.met 𝓤 H 𝓜 𝓖 𝓡);
-      find = cited 𝓤 H (Find 𝓤 H (𝓖 .A) (𝓜 .mem) (𝓡 .run)) 𝓜 𝓡 code.env #find find-def.routine code.calls-replay·row·find (find-thm.met 𝓤 H 𝓜 𝓖 𝓡);
-      end = cited 𝓤 H (End 𝓤 H (𝓖 .A) (𝓜 .mem) (𝓡 .run)) 𝓜 𝓡 code.env #end end-def.routine code.calls-replay·answer·end (end-thm.met 𝓤 H 𝓜 𝓖 𝓡);
+      taken = cited 𝓤 H (Is-taken 𝓤 H (𝓖 .A) (𝓜 .mem) (𝓡 .run)) 𝓜 𝓡 code.env #taken taken-def.routine code.calls-step·answer·is-taken (taken-thm.met 𝓤 H 𝓜 𝓖 𝓡);
+      stopped = cited 𝓤 H (Stopped 𝓤 H (𝓖 .A) (𝓜 .mem) (𝓡 .run)) 𝓜 𝓡 code.env #stopped stopped-def.routine code.calls-step·answer·stopped (stopped-thm.met 𝓤 H 𝓜 𝓖 𝓡);
+      last = cited 𝓤 H (Last-of 𝓤 H (𝓖 .A) (𝓜 .mem) (𝓡 .run)) 𝓜 𝓡 code.env #last last-def.routine code.calls-step·answer·last-of (last-thm.met 𝓤 H 𝓜 𝓖 𝓡);
+      find = cited 𝓤 H (Find 𝓤 H (𝓖 .A) (𝓜 .mem) (𝓡 .run)) 𝓜 𝓡 code.env #find find-def.routine code.calls-row·find (find-thm.met 𝓤 H 𝓜 𝓖 𝓡);
+      end = cited 𝓤 H (End 𝓤 H (𝓖 .A) (𝓜 .mem) (𝓡 .run)) 𝓜 𝓡 code.env #end end-def.routine code.calls-step·answer·end (end-thm.met 𝓤 H 𝓜 𝓖 𝓡);
     }))
