@@ -9,8 +9,7 @@ use reference::passes::rebuild::Why;
 use reference::passes::recycle::Edge;
 use reference::press::{read_proof, run_passes};
 use reference::proof::{Node, Proof};
-use reference::record::Record;
-use reference::tries::passes::{both_lack, joined, trimmed_again};
+use reference::tries::passes::*;
 
 #[test]
 fn the_kept_side_of_a_cut() {
@@ -23,22 +22,10 @@ fn the_kept_side_of_a_cut() {
     assert_eq!(passes.rebuilt.stand_ins[&2], 0);
 }
 
-/// The mirror image of *irregular*: every pivot literal turned round.
 #[test]
 fn a_left_edge_cut() {
-    let records = [
-        given(0, "-0 -1"),
-        given(1, "+0 -2"),
-        step(0, 1, 0, "-1 -2"),
-        given(2, "-0 +1"),
-        step(1, 3, 2, "-0 -2"),
-        given(3, "+0"),
-        step(0, 5, 4, "-2"),
-        given(4, "+2"),
-        step(2, 7, 6, ""),
-    ];
     let table = rules(&["-0 -1", "+0 -2", "-0 +1", "+0", "+2"]);
-    let done = press_ok(&sheet(&records), &table);
+    let done = press_ok(&sheet(&mirrored()), &table);
     let expected = [
         given(3, "+0"),
         given(2, "-0 +1"),
@@ -59,18 +46,8 @@ fn a_left_edge_cut() {
 /// it may be cut on 0: its S is empty although both uses would hand over a 0.
 #[test]
 fn s_is_not_carried_into_a_node_used_twice() {
-    let records = [
-        given(0, "+0 +1"),
-        given(1, "-0 +1"),
-        step(0, 0, 1, "+1"),
-        given(2, "+0 -1"),
-        step(1, 2, 3, "+0"),
-        given(3, "-0 -1"),
-        step(1, 2, 5, "-0"),
-        step(0, 4, 6, ""),
-    ];
     let table = rules(&["+0 +1", "-0 +1", "+0 -1", "-0 -1"]);
-    let input = sheet(&records);
+    let input = sheet(&shared());
     let passes = run_passes(read_proof(&input, &table).unwrap());
     assert!(passes.visits.values().all(|visit| visit.cut.is_none()));
     assert!(passes.visits[&2].s.is_empty());
@@ -91,14 +68,12 @@ fn no_step_is_rebuilt_without_its_pivot() {
 /// on, so that the next step on the same pivot is cut as well.
 #[test]
 fn a_cut_step_hands_its_s_on() {
-    let both = || given(0, "+0 -0");
     let table = rules(&["+0 -0"]);
-    let on = |left, right| step(0, left, right, "+0 -0");
-    let left = [both(), both(), on(0, 1), both(), on(2, 3), both(), on(4, 5)];
-    let right = [both(), both(), on(0, 1), both(), on(3, 2), both(), on(5, 4)];
+    let left = chain([(0, 1), (2, 3), (4, 5)]);
+    let right = chain([(0, 1), (3, 2), (5, 4)]);
     let kept = [(left, Edge::Right, "+0", 0), (right, Edge::Left, "-0", 1)];
-    for (records, edge, s, stand_in) in kept {
-        let passes = run_passes(read_proof(&sheet(&records), &table).unwrap());
+    for (sheet, edge, s, stand_in) in kept {
+        let passes = run_passes(read_proof(&sheet, &table).unwrap());
         for number in [2, 4] {
             assert_eq!(passes.visits[&number].cut, Some(edge));
             assert_eq!(passes.visits[&number].s, clause(s));
@@ -112,15 +87,8 @@ fn a_cut_step_hands_its_s_on() {
 /// cut, and still counts as used twice, so node 2 itself isn't cut on 0.
 #[test]
 fn cuts_do_not_lower_uses() {
-    let records = [
-        given(0, "+0 -0"),
-        given(1, "+0 -0 +1"),
-        step(0, 0, 1, "+0 -0 +1"),
-        step(0, 2, 2, "+0 -0 +1"),
-        step(0, 3, 0, "+0 -0 +1"),
-    ];
     let table = rules(&["+0 -0", "+0 -0 +1"]);
-    let passes = run_passes(read_proof(&sheet(&records), &table).unwrap());
+    let passes = run_passes(read_proof(&sheet(&named_twice()), &table).unwrap());
     assert_eq!(passes.visits[&3].cut, Some(Edge::Right));
     assert!(passes.visits[&2].s.is_empty());
     assert_eq!(passes.visits[&2].cut, None);
@@ -161,15 +129,7 @@ fn more_uses_go_first() {
     let table = rules(&["+0 +1", "-1 -0 -2", "+2"]);
     let passes = run_passes(read_proof(&sheet(&records), &table).unwrap());
     assert_eq!(passes.order, [0, 1, 2, 3, 4, 5]);
-    let mirrored = [
-        given(2, "+2"),
-        given(0, "+0 +1"),
-        given(1, "-1 -0 -2"),
-        step(1, 1, 2, "+0 -0 -2"),
-        step(2, 0, 3, "+0 -0"),
-        step(0, 4, 3, "+0 -0 -2"),
-    ];
-    let passes = run_passes(read_proof(&sheet(&mirrored), &table).unwrap());
+    let passes = run_passes(read_proof(&sheet(&more_uses()), &table).unwrap());
     assert_eq!(passes.order, [1, 2, 3, 0, 4, 5]);
     let expected = [
         given(0, "+0 +1"),
@@ -191,29 +151,7 @@ fn more_uses_go_first() {
 /// but node 2 has three uses and so goes before node 1, the left premise of 3.
 #[test]
 fn uses_count_places_and_not_children() {
-    let base = clause("+0 -0 +1 -1 +2 -2 +3 -3 +4 -4 +5 -5");
-    let node = |pivot, left, right| {
-        Record::Node(Node::Step {
-            pivot,
-            left,
-            right,
-            clause: base.clone(),
-        })
-    };
-    let first = Record::Node(Node::Given {
-        line: 0,
-        clause: base.clone(),
-    });
-    let records = [
-        first,
-        node(0, 0, 0),
-        node(1, 0, 0),
-        node(2, 1, 2),
-        node(3, 2, 2),
-        node(4, 1, 4),
-        node(5, 3, 5),
-    ];
-    let passes = run_passes(read_proof(&sheet(&records), &base.write()).unwrap());
+    let passes = run_passes(read_proof(&sheet(&places()), &rules(&[SIX])).unwrap());
     assert_eq!(passes.order, [0, 2, 1, 3, 4, 5, 6]);
 }
 

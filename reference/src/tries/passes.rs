@@ -14,7 +14,7 @@ fn on(left: usize, right: usize) -> Record {
 }
 
 /// A given node, and then three times a given node and a step.
-fn chain(steps: [(usize, usize); 3]) -> Vec<u8> {
+pub fn chain(steps: [(usize, usize); 3]) -> Vec<u8> {
     let link = |(left, right)| [whole(), on(left, right)];
     let links = steps.into_iter().flat_map(link);
     sheet(&std::iter::once(whole()).chain(links).collect::<Vec<_>>())
@@ -49,7 +49,8 @@ pub fn slips() -> Vec<Entry> {
     ]
 }
 
-fn mirrored() -> Vec<Record> {
+/// The mirror image of *irregular*: every pivot literal turned round.
+pub fn mirrored() -> Vec<Record> {
     vec![
         given(0, "-0 -1"),
         given(1, "+0 -2"),
@@ -63,7 +64,8 @@ fn mirrored() -> Vec<Record> {
     ]
 }
 
-fn shared() -> Vec<Record> {
+/// Node 2 is used by two steps on different sides of pivot 0.
+pub fn shared() -> Vec<Record> {
     vec![
         given(0, "+0 +1"),
         given(1, "-0 +1"),
@@ -77,16 +79,9 @@ fn shared() -> Vec<Record> {
 }
 
 pub fn stand_ins() -> Vec<Entry> {
-    let named_twice = [
-        given(0, "+0 -0"),
-        given(1, "+0 -0 +1"),
-        step(0, 0, 1, "+0 -0 +1"),
-        step(0, 2, 2, "+0 -0 +1"),
-        step(0, 3, 0, "+0 -0 +1"),
-    ];
     vec![
         // cuts don't lower uses
-        press(&sheet(&named_twice), &rules(&["+0 -0", "+0 -0 +1"])),
+        press(&sheet(&named_twice()), &rules(&["+0 -0", "+0 -0 +1"])),
         // both stand-ins lack the pivot: the left one is taken
         press(
             &sheet(&both_lack()),
@@ -94,6 +89,17 @@ pub fn stand_ins() -> Vec<Entry> {
         ),
         // a step that names one node on both sides only once it is rebuilt
         press(&sheet(&joined()), &rules(&["-0", "+0 +1 -1"])),
+    ]
+}
+
+/// Node 2 is named twice by node 3, where one edge is cut.
+pub fn named_twice() -> Vec<Record> {
+    vec![
+        given(0, "+0 -0"),
+        given(1, "+0 -0 +1"),
+        step(0, 0, 1, "+0 -0 +1"),
+        step(0, 2, 2, "+0 -0 +1"),
+        step(0, 3, 0, "+0 -0 +1"),
     ]
 }
 
@@ -126,17 +132,9 @@ pub fn joined() -> Vec<Record> {
 /// "Of two premises the one with more uses in the pressed proof goes first;
 /// equal: left."
 pub fn orders() -> Vec<Entry> {
-    let more_uses = [
-        given(2, "+2"),
-        given(0, "+0 +1"),
-        given(1, "-1 -0 -2"),
-        step(1, 1, 2, "+0 -0 -2"),
-        step(2, 0, 3, "+0 -0"),
-        step(0, 4, 3, "+0 -0 -2"),
-    ];
     vec![
         // the right premise has two uses, the left one
-        press(&sheet(&more_uses), &rules(&["+0 +1", "-1 -0 -2", "+2"])),
+        press(&sheet(&more_uses()), &rules(&["+0 +1", "-1 -0 -2", "+2"])),
         // uses are places, and not children
         press(&sheet(&places()), &rules(&[SIX])),
         // uses are those of the proof that is trimmed again
@@ -147,10 +145,23 @@ pub fn orders() -> Vec<Entry> {
     ]
 }
 
-/// Six variables, each both ways.
-const SIX: &str = "+0 -0 +1 -1 +2 -2 +3 -3 +4 -4 +5 -5";
+/// The right premise of the sink has two uses, the left one has one.
+pub fn more_uses() -> Vec<Record> {
+    vec![
+        given(2, "+2"),
+        given(0, "+0 +1"),
+        given(1, "-1 -0 -2"),
+        step(1, 1, 2, "+0 -0 -2"),
+        step(2, 0, 3, "+0 -0"),
+        step(0, 4, 3, "+0 -0 -2"),
+    ]
+}
 
-fn places() -> Vec<Record> {
+/// Six variables, each both ways.
+pub const SIX: &str = "+0 -0 +1 -1 +2 -2 +3 -3 +4 -4 +5 -5";
+
+/// Nodes 1 and 2 have two children each, but node 2 has three uses.
+pub fn places() -> Vec<Record> {
     let node = |pivot, left, right| step(pivot, left, right, SIX);
     vec![
         given(0, SIX),
