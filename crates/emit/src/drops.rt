@@ -24,13 +24,7 @@ fn names(heads: &[u64], positives: &[u64], negatives: &[u64], m: NodeNo, n: Node
     ensures { λ b. ⌜ b ≡ not (eqb (usesIn (n .0) (nodeAt (nodesIn (now (heads .entry)) (now (positives .entry)) (now (negatives .entry))) (m .0))) 0) ⌝ }
 {
     let found = node::node_at(heads, positives, negatives, m);
-    let Record::Step {
-        pivot: _,
-        left,
-        right,
-        clause: _,
-    } = found
-    else {
+    let Record::Step { left, right, .. } = found else {
         return false;
     };
     if n.0 == left.0 {
@@ -90,13 +84,7 @@ pub fn emit_turn(
 {
     let found = node::node_at(heads, positives, negatives, k);
     let first = emit::emit_record(out, e, found);
-    let Record::Step {
-        pivot: _,
-        left,
-        right,
-        clause: _,
-    } = found
-    else {
+    let Record::Step { left, right, .. } = found else {
         return first;
     };
     let from = k.0 + 1;

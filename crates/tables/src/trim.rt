@@ -19,14 +19,7 @@ fn trim_turn(heads: &[u64], positives: &[u64], negatives: &[u64], n: NodeNo, kep
     if kept[i] == 0 {
         return;
     }
-    let found = node::node_at(heads, positives, negatives, n);
-    let Record::Step {
-        pivot: _,
-        left,
-        right,
-        clause: _,
-    } = found
-    else {
+    let Record::Step { left, right, .. } = node::node_at(heads, positives, negatives, n) else {
         return;
     };
     let l = base::wide(left.0);

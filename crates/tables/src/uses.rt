@@ -42,14 +42,7 @@ fn use_turn(
     if kept[i] == 0 {
         return;
     }
-    let found = node::node_at(heads, positives, negatives, n);
-    let Record::Step {
-        pivot: _,
-        left,
-        right,
-        clause: _,
-    } = found
-    else {
+    let Record::Step { left, right, .. } = node::node_at(heads, positives, negatives, n) else {
         return;
     };
     add_uses(counts, left, right);

@@ -18,8 +18,8 @@ returns c = search trim-past
 node-at-requires : tie.Need-node-at-requires
 node-at-requires c κs = search needs
 
-enum-known-found : tie.Need-enum-known-found
-enum-known-found c = search needs
+enum-known-left : tie.Need-enum-known-left
+enum-known-left c = search needs
 
 returns-2 : tie.Need-returns-2
 returns-2 c = search (trim-given, found-given)
@@ -33,13 +33,13 @@ wide-requires-3 c κs = search needs
 slice-write-kept : tie.Need-slice-write-kept
 slice-write-kept c = let a = c .before .before .before in
     let s = a .before .before .before .before .before .before .before .before .before .before in
-    let o = found-sound _ _ _ _ _ _ _ _ _ (s .pre .0) (s .pre .1 .1) (a .before .before .node-at .ensures) (a .found .given .1) in
+    let o = found-sound _ _ _ _ _ _ _ _ _ (s .pre .0) (s .pre .1 .1) (a .before .before .node-at .ensures) (a .left .given .1) in
     omega arith
 
 slice-write-kept-2 : tie.Need-slice-write-kept-2
 slice-write-kept-2 c = let a = c .before .before .before in
     let s = a .before .before .before .before .before .before .before .before .before .before in
-    let o = found-sound _ _ _ _ _ _ _ _ _ (s .pre .0) (s .pre .1 .1) (a .before .before .node-at .ensures) (a .found .given .1) in
+    let o = found-sound _ _ _ _ _ _ _ _ _ (s .pre .0) (s .pre .1 .1) (a .before .before .node-at .ensures) (a .left .given .1) in
     simp length-set (omega arith)
 
 same-length : tie.Need-same-length
@@ -47,7 +47,7 @@ same-length c = search needs
 
 returns-3 : tie.Need-returns-3
 returns-3 c = let a = c .before .before .before in
-    let e = found-step _ _ _ _ _ _ (a .before .before .node-at .ensures) (a .found .given .1) in
+    let e = found-step _ _ _ _ _ _ (a .before .before .node-at .ensures) (a .left .given .1) in
     search trim-step
 
 pub trim-turn-spec : {M : Type 1} → statement M
@@ -58,7 +58,7 @@ trim-turn-spec =
     slice-read-if1
     returns
     node-at-requires
-    enum-known-found
+    enum-known-left
     returns-2
     wide-requires-2
     wide-requires-3
