@@ -1,8 +1,8 @@
 -- Room for the records that are still to come, and what a turn of the emitting pass makes of it.
-use mathlib.Core.Path.{_≡_, refl, sym, ap, ap₂, _∙_}
+use mathlib.Core.Path.{_≡_, refl, sym, ap, _∙_}
 use mathlib.Core.Bool.{Bool, true, false, not, cond, true≢false}
-use mathlib.Core.List.{List, [], _∷_, _++_, append-nil, append-assoc}
-use Prim.Native.Nat.{ℕ, zero, suc, _+_, _-_, _*_, _<_, _≤_, min, max}
+use mathlib.Core.List.{List, [], _∷_, _++_, append-nil}
+use Prim.Native.Nat.{ℕ, _+_, _*_, _<_, _≤_, min, max}
 use native.Mathlib.Omega.{arith}
 use borrow.Author.Tests.{eq-eqb, ne-eqb}
 use lib.Dec.{eqb}
@@ -17,7 +17,7 @@ use Rattle.sheet.specs.Counts.{stepOf}
 use Rattle.sheet.proofs.Fields.{length-recordBytesOf}
 use Rattle.pressing.specs.Trim.{uses}
 use Rattle.pressing.specs.Drops.{dropLast, dropsAfter, withDrops}
-use Rattle.emit.specs.Emission.{Emission, emission, emitRecord, emitAll, recordsAt, Roomy}
+use Rattle.emit.specs.Emission.{Emission, emitRecord, emitAll, recordsAt, Roomy}
 use Rattle.tables.proofs.Found.{IsGiven}
 use Rattle.emit.proofs.Emits.{emitAll-append}
 use Rattle.emit.proofs.Emitting.{Named, from-cons, after-all}
@@ -96,61 +96,67 @@ module _ (later : List Node) (n : ℕ) (e : Emission) where
 
 -- ---- a node and its drops
 
-module _ (s : List Node) (k : ℕ) where
-  drops-given : IsGiven (nodeAt s k) → dropsAfter (nodeAt s k) (after (k + 1) s) ≡ []
+module _ (s : List Node) (k : ℕ) (e : Emission) where
+  pub turn-room : Roomy (recordsAt s k) e → One e
+  unfolding recordsAt
+  turn-room h = roomy-one (node (nodeAt s k)) (dropsAfter (nodeAt s k) (after (k + 1) s)) e h
+
+  pub turn-given : IsGiven (nodeAt s k) → emitRecord (node (nodeAt s k)) e ≡ emitAll (recordsAt s k) e
+  unfolding emitAll recordsAt dropsAfter
+  turn-given (line, c, q) = rw q
+
+-- node k is a step of l and r, there is room for it and its drops, and it is emitted
+pub record Stepped (s : List Node) (k : ℕ) (e e₁ : Emission) (l r : ℕ) : Type 0 where
+  pub pivot : ℕ
+  pub result : Literals
+  pub is : nodeAt s k ≡ step pivot l r result
+  pub room : Roomy (recordsAt s k) e
+  pub first : e₁ ≡ emitRecord (node (nodeAt s k)) e
+
+module _ {s : List Node} {k : ℕ} {e e₁ : Emission} {l r : ℕ} (d : Stepped s k e e₁ l r) where
+  abbrev later : List Node
+  later = after (k + 1) s
+
+  abbrev drops : List Record
+  drops = dropsAfter (nodeAt s k) later
+
+  drops-room : Roomy drops e₁
+  unfolding recordsAt
+  drops-room = rw (d .first) (roomy-next (node (nodeAt s k)) drops e (d .room))
+
+  whole : emitAll drops e₁ ≡ emitAll (recordsAt s k) e
+  unfolding recordsAt emitAll
+  whole = ap (emitAll drops) (d .first)
+
+  drops-same : l ≡ r → drops ≡ dropLast later l ++ []
   unfolding dropsAfter
-  drops-given g = ap (λ (x : Node). dropsAfter x (after (k + 1) s)) (g .2)
+  drops-same q = let low : min l r ≡ l = omega arith in rw (d .is, eq-eqb l r q, low)
 
-  module _ (p l r : ℕ) (c : Literals) (q : nodeAt s k ≡ step p l r c) where
-    drops-same : l ≡ r → dropsAfter (nodeAt s k) (after (k + 1) s) ≡ dropLast (after (k + 1) s) l ++ []
+  pub same-room : l ≡ r → Roomy (dropLast later l) e₁
+  same-room q = roomy-first (dropLast later l) [] e₁ (rw (drops-same q) at drops-room)
+
+  pub turn-same : {e₂ : Emission} → l ≡ r → e₂ ≡ emitAll (dropLast later l) e₁ → e₂ ≡ emitAll (recordsAt s k) e
+  turn-same q z =
+      z ∙ ap (λ (rs : List Record). emitAll rs e₁) (sym (append-nil (dropLast later l)) ∙ sym (drops-same q)) ∙ whole
+
+  module _ {low high : ℕ} (q : l ≡ r → ⊥) (lo : low ≡ min l r) (hi : high ≡ max l r) where
+    drops-two : drops ≡ dropLast later low ++ dropLast later high
     unfolding dropsAfter
-    drops-same e =
-        let low : min l r ≡ l = omega arith in
-        ap (λ (x : Node). dropsAfter x (after (k + 1) s)) q ∙ rw (eq-eqb l r e, low)
+    drops-two = rw (d .is, ne-eqb l r q, lo, hi)
 
-    drops-two : (l ≡ r → ⊥) → dropsAfter (nodeAt s k) (after (k + 1) s) ≡ dropLast (after (k + 1) s) (min l r) ++ dropLast (after (k + 1) s) (max l r)
-    unfolding dropsAfter
-    drops-two d = ap (λ (x : Node). dropsAfter x (after (k + 1) s)) q ∙ rw (ne-eqb l r d)
+    pub low-room : Roomy (dropLast later low) e₁
+    low-room = roomy-first (dropLast later low) (dropLast later high) e₁ (rw drops-two at drops-room)
 
-  module _ (e : Emission) where
-    pub turn-room : Roomy (recordsAt s k) e → One e
-    unfolding recordsAt
-    turn-room h = roomy-one (node (nodeAt s k)) (dropsAfter (nodeAt s k) (after (k + 1) s)) e h
+    module _ {e₂ : Emission} (second : e₂ ≡ emitAll (dropLast later low) e₁) where
+      pub high-room : Roomy (dropLast later high) e₂
+      high-room = rw second (roomy-rest (dropLast later low) (dropLast later high) e₁ (rw drops-two at drops-room))
 
-    rest-room : Roomy (recordsAt s k) e → Roomy (dropsAfter (nodeAt s k) (after (k + 1) s)) (emitRecord (node (nodeAt s k)) e)
-    unfolding recordsAt
-    rest-room h = roomy-next (node (nodeAt s k)) (dropsAfter (nodeAt s k) (after (k + 1) s)) e h
-
-    whole : emitAll (dropsAfter (nodeAt s k) (after (k + 1) s)) (emitRecord (node (nodeAt s k)) e) ≡ emitAll (recordsAt s k) e
-    unfolding recordsAt emitAll
-    whole = refl
-
-    pub turn-given : IsGiven (nodeAt s k) → emitRecord (node (nodeAt s k)) e ≡ emitAll (recordsAt s k) e
-    unfolding emitAll
-    turn-given g = sym (ap (λ (rs : List Record). emitAll rs (emitRecord (node (nodeAt s k)) e)) (drops-given g)) ∙ whole
-
-    module _ (p l r : ℕ) (c : Literals) (q : nodeAt s k ≡ step p l r c) where
-      pub same-room : l ≡ r → Roomy (recordsAt s k) e → Roomy (dropLast (after (k + 1) s) l) (emitRecord (node (nodeAt s k)) e)
-      same-room d h = roomy-first (dropLast (after (k + 1) s) l) [] (emitRecord (node (nodeAt s k)) e) (rw (drops-same p l r c q d) at (rest-room h))
-
-      pub turn-same : l ≡ r → emitAll (dropLast (after (k + 1) s) l) (emitRecord (node (nodeAt s k)) e) ≡ emitAll (recordsAt s k) e
-      turn-same d =
-          ap (λ (rs : List Record). emitAll rs (emitRecord (node (nodeAt s k)) e)) (sym (append-nil (dropLast (after (k + 1) s) l)) ∙ sym (drops-same p l r c q d)) ∙ whole
-
-      pub low-room : (l ≡ r → ⊥) → Roomy (recordsAt s k) e → Roomy (dropLast (after (k + 1) s) (min l r)) (emitRecord (node (nodeAt s k)) e)
-      low-room d h =
-          roomy-first (dropLast (after (k + 1) s) (min l r)) (dropLast (after (k + 1) s) (max l r)) (emitRecord (node (nodeAt s k)) e) (rw (drops-two p l r c q d) at (rest-room h))
-
-      pub high-room : (l ≡ r → ⊥) → Roomy (recordsAt s k) e
-          → Roomy (dropLast (after (k + 1) s) (max l r)) (emitAll (dropLast (after (k + 1) s) (min l r)) (emitRecord (node (nodeAt s k)) e))
-      high-room d h =
-          roomy-rest (dropLast (after (k + 1) s) (min l r)) (dropLast (after (k + 1) s) (max l r)) (emitRecord (node (nodeAt s k)) e) (rw (drops-two p l r c q d) at (rest-room h))
-
-      pub turn-two : (l ≡ r → ⊥)
-          → emitAll (dropLast (after (k + 1) s) (max l r)) (emitAll (dropLast (after (k + 1) s) (min l r)) (emitRecord (node (nodeAt s k)) e)) ≡ emitAll (recordsAt s k) e
-      turn-two d =
-          sym (emitAll-append (dropLast (after (k + 1) s) (min l r)) (dropLast (after (k + 1) s) (max l r)) (emitRecord (node (nodeAt s k)) e))
-          ∙ ap (λ (rs : List Record). emitAll rs (emitRecord (node (nodeAt s k)) e)) (sym (drops-two p l r c q d))
+      pub turn-two : {e₃ : Emission} → e₃ ≡ emitAll (dropLast later high) e₂ → e₃ ≡ emitAll (recordsAt s k) e
+      turn-two z =
+          z
+          ∙ ap (emitAll (dropLast later high)) second
+          ∙ sym (emitAll-append (dropLast later low) (dropLast later high) e₁)
+          ∙ ap (λ (rs : List Record). emitAll rs e₁) (sym drops-two)
           ∙ whole
 
 -- ---- the loop: what is left to emit
