@@ -44,40 +44,46 @@ module _ (s : List Node) (next : ℕ) (h : next ≤ length s) where
     both-early d e =
         rw (length-take-le next s h, d, e, clause-earlier l (earlier-fine next l d), clause-earlier r (earlier-fine next r e))
 
-module _ (rules b : List ℕ) (s : List Node) where
-  pub turn-unread : (why : Reason) → reading narrow false b ≡ unread why → turn narrow rules b s ≡ stops why
-  unfolding turn byReading
-  turn-unread why e = rw e
-
-  pub turn-drop : (n : ℕ) → reading narrow false b ≡ reads (drop n) → turn narrow rules b s ≡ stops Kind
-  unfolding turn byReading
-  turn-drop n e = rw e
-
-  pub turn-fine : (n : Node) → reading narrow false b ≡ reads (node n) → checkNode narrow rules s n ≡ Fine → turn narrow rules b s ≡ goes n
-  unfolding turn byReading byVerdict
-  turn-fine n e v = rw (e, v)
-
-  pub turn-refused : (n : Node) (why : Reason) → reading narrow false b ≡ reads (node n) → checkNode narrow rules s n ≡ Refused why
-      → turn narrow rules b s ≡ stops why
-  unfolding turn byReading byVerdict
-  turn-refused n why e v = rw (e, v)
-
 pub given-checked : (rules : List ℕ) (s : List Node) (line : ℕ) (c : Literals) → checkNode narrow rules s (given line c) ≡ checkGiven narrow rules line c
 unfolding checkNode
 given-checked rules s line c = refl
 
--- what is said and stored at a turn that stops, and at one that goes on
-module _ (rules b : List ℕ) (before : List Node) (k : ℕ) (s : List Node) where
+-- what is said and stored at turn k, by what is read there
+module _ (rules b : List ℕ) (s : List Node) (k : ℕ) where
   abbrev pub Turned : Verdict → List Node → Type 0
-  Turned v after = (v ≡ turnSays (turn narrow rules b before)) × (after ≡ turnStores k (turn narrow rules b before) s)
+  Turned v after = (v ≡ turnSays (turn narrow rules b (take k s))) × (after ≡ turnStores k (turn narrow rules b (take k s)) s)
 
-  pub turned-stops : (v : Verdict) (why : Reason) → v ≡ Refused why → turn narrow rules b before ≡ stops why → Turned v s
+  stopped : {v : Verdict} (why : Reason) → v ≡ Refused why → turn narrow rules b (take k s) ≡ stops why → Turned v s
   unfolding turnSays turnStores
-  turned-stops v why p e = (p ∙ sym (ap turnSays e), sym (ap (λ (t : Turn). turnStores k t s) e))
+  stopped why p e = (p ∙ sym (ap turnSays e), sym (ap (λ (t : Turn). turnStores k t s) e))
 
-  pub turned-goes : (v : Verdict) (n : Node) (after : List Node) → v ≡ Fine → after ≡ set s k n → turn narrow rules b before ≡ goes n → Turned v after
-  unfolding turnSays turnStores
-  turned-goes v n after p q e = (p ∙ sym (ap turnSays e), q ∙ sym (ap (λ (t : Turn). turnStores k t s) e))
+  pub turn-unread : {v : Verdict} (why : Reason) → v ≡ Refused why → reading narrow false b ≡ unread why → Turned v s
+  unfolding turn byReading
+  turn-unread why p e = stopped why p (rw e)
+
+  pub turn-drop : (n : ℕ) → reading narrow false b ≡ reads (drop n) → Turned (Refused Kind) s
+  unfolding turn byReading
+  turn-drop n e = stopped Kind refl (rw e)
+
+  -- node n is read, and the checks say v of it
+  pub record Checked (n : Node) (v : Verdict) : Type 0 where
+    pub read : reading narrow false b ≡ reads (node n)
+    pub says : v ≡ checkNode narrow rules (take k s) n
+
+module _ {rules b : List ℕ} {s : List Node} {k : ℕ} {n : Node} {v : Verdict} (c : Checked rules b s k n v) where
+  turned : turn narrow rules b (take k s) ≡ byVerdict n v
+  unfolding turn byReading
+  turned = rw (c .read, c .says)
+
+  pub turn-refused : {why : Reason} → v ≡ Refused why → Turned rules b s k v s
+  unfolding byVerdict
+  turn-refused {why} p = stopped rules b s k why p (turned ∙ ap (byVerdict n) p)
+
+  pub turn-fine : {after : List Node} → v ≡ Fine → after ≡ set s k n → Turned rules b s k v after
+  unfolding byVerdict turnSays turnStores
+  turn-fine p q =
+      let e : turn narrow rules b (take k s) ≡ goes n = turned ∙ ap (byVerdict n) p in
+      (p ∙ sym (ap turnSays e), q ∙ sym (ap (λ (t : Turn). turnStores k t s) e))
 
 said-fine : (t : Turn) → Fine ≡ turnSays t → (n : Node) × (t ≡ goes n)
 unfolding turnSays
@@ -115,7 +121,7 @@ module _ (rules sheet : List ℕ) where
     same-turn : turn narrow rules (recordAt narrow sheet (length (take k s))) (take k s) ≡ turn narrow rules b (take k s)
     same-turn = ap (λ (l : List ℕ). turn narrow rules l (take k s)) (ap (recordAt narrow sheet) whole ∙ sym here)
 
-    pub judge-goes : (v : Verdict) (after : List Node) → v ≡ Fine → Turned rules b (take k s) k s v after → Left n (k + 1) after
+    pub judge-goes : (v : Verdict) (after : List Node) → v ≡ Fine → Turned rules b s k v after → Left n (k + 1) after
     unfolding turnStores
     judge-goes v after fine t =
         let went = said-fine (turn narrow rules b (take k s)) (sym fine ∙ t .0) in
@@ -126,7 +132,7 @@ module _ (rules sheet : List ℕ) where
         ∙ ap (λ (m : ℕ). judgeFrom narrow rules sheet m (take k s)) (sym more)
         ∙ left
 
-    pub judge-halts : (v : Verdict) (why : Reason) (after : List Node) → v ≡ Refused why → Turned rules b (take k s) k s v after → bad why k ≡ judge narrow rules sheet
+    pub judge-halts : (v : Verdict) (why : Reason) (after : List Node) → v ≡ Refused why → Turned rules b s k v after → bad why k ≡ judge narrow rules sheet
     judge-halts v why after e t =
         ap (bad why) (sym whole)
         ∙ sym (judge-stops narrow rules sheet (n - (k + 1)) (take k s) why (same-turn ∙ said-refused (turn narrow rules b (take k s)) why (sym e ∙ t .0)))

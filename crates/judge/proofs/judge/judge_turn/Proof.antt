@@ -1,16 +1,54 @@
-use mathlib.Core.Path.{refl, sym, ap, _∙_}
-use native.Mathlib.Omega.{arith}
-use lib.ListN.{take}
+use mathlib.Core.Path.{sym, ap, _∙_}
+use mathlib.Core.List.{List}
 use Rattle.clause.specs.Denote.{literalsOf}
+use Rattle.sheet.specs.declared.Verdict.{Verdict}
 use Rattle.sheet.specs.declared.Verdict.the-variants.{Refused}
 use Rattle.sheet.specs.declared.Reading.the-variants.{Reads}
 use Rattle.sheet.specs.Denote.{recordOf, readingOf, whyUnread}
-use Rattle.sheet.specs.Records.{given, step}
+use Rattle.sheet.specs.Records.{Node, given, step}
 use Rattle.tables.specs.Tables.{nodesIn}
-use Rattle.judge.proofs.Judging.{turned-stops, turned-goes, turn-unread, turn-drop, turn-fine, turn-refused, given-checked}
+use Rattle.judge.proofs.Judging.{given-checked, turn-unread, turn-drop, Checked, turn-refused, turn-fine}
 use borrow.Author.Needs.{needs}
 use Rattle.judge.proofs.judge.judge_turn.Statement.{statement}
 use Rattle.judge.proofs.judge.judge_turn.Tie as tie
+
+-- ---- what is known where the record is read, and where it is checked
+
+module _ (r : tie.After-read-record) where
+  abbrev start : tie.Start
+  start = r .before .before .before .before .before .before
+
+  abbrev nodes : List Node
+  nodes = nodesIn (start .args .heads .now) (start .args .positives .now) (start .args .negatives .now)
+
+  abbrev CheckedHere : Node → Verdict → Type 0
+  CheckedHere n v = Checked (start .args .rules .now) (start .args .bytes .now) nodes (start .args .k .0) n v
+
+abbrev read-of : tie.After-reading → tie.After-read-record
+read-of y = y .before .before
+
+given-here : (g : tie.After-check-given) → let m = g .before .before in
+    CheckedHere (read-of (m .before .before .before)) (given (m .«record» .given .0 .0 .0) (literalsOf (m .«record» .given .0 .1 .0))) (g .check-given .result)
+unfolding readingOf recordOf
+given-here g = let m = g .before .before in
+    let y = m .before .before .before in
+    record {
+      read = sym (read-of y .read-record .ensures) ∙ ap readingOf (y .reading .given .1 ∙ ap Reads (m .«record» .given .1));
+      says = g .check-given .ensures ∙ sym (given-checked _ _ _ _);
+    }
+
+step-here : (g : tie.After-check-step) → let m = g .before .before .before .before .before in
+    let found = m .record2 .given .0 in
+    CheckedHere (read-of (m .before .before .before)) (step (found .0) (found .1 .0 .0) (found .1 .1 .0 .0) (literalsOf (found .1 .1 .1 .0))) (g .check-step .result)
+unfolding readingOf recordOf
+step-here g = let m = g .before .before .before .before .before in
+    let y = m .before .before .before in
+    record {
+      read = sym (read-of y .read-record .ensures) ∙ ap readingOf (y .reading .given .1 ∙ ap Reads (m .record2 .given .1));
+      says = g .check-step .ensures (start (read-of y) .args .rules .now);
+    }
+
+-- ---- the needs
 
 read-record-requires : tie.Need-read-record-requires
 read-record-requires c κs = search needs
@@ -26,12 +64,9 @@ why-unread-requires c κs = search needs
 
 returns : tie.Need-returns
 unfolding readingOf whyUnread
-returns c = let rd = c .before .before .before in
-    let st = rd .before .before .before .before .before .before in
-    let a = st .args in
-    let s = nodesIn (a .heads .now) (a .positives .now) (a .negatives .now) in
+returns c = let r = c .before .before .before in
     let told = c .before .enum-told .given .1 in
-    turned-stops (a .rules .now) (a .bytes .now) (take (a .k .0) s) (a .k .0) s _ _ (ap Refused (c .why-unread .ensures ∙ ap (λ x. whyUnread (readingOf x)) told)) (turn-unread (a .rules .now) (a .bytes .now) (take (a .k .0) s) _ (sym (rd .read-record .ensures) ∙ ap readingOf told))
+    turn-unread (start r .args .rules .now) (start r .args .bytes .now) (nodes r) (start r .args .k .0) _ (ap Refused (c .why-unread .ensures ∙ ap (λ x. whyUnread (readingOf x)) told)) (sym (r .read-record .ensures) ∙ ap readingOf told)
 
 enum-known-record : tie.Need-enum-known-record
 enum-known-record c = search needs
@@ -46,18 +81,7 @@ enum-told-3 : tie.Need-enum-told-3
 enum-told-3 c = search needs
 
 returns-2 : tie.Need-returns-2
-unfolding readingOf recordOf
-returns-2 c = let g = c .before .before in
-    let kr = g .before .before in
-    let rdg = kr .before .before .before in
-    let rd = rdg .before .before in
-    let st = rd .before .before .before .before .before .before in
-    let a = st .args in
-    let s = nodesIn (a .heads .now) (a .positives .now) (a .negatives .now) in
-    let before = take (a .k .0) s in
-    let read = sym (rd .read-record .ensures) ∙ ap readingOf (rdg .reading .given .1 ∙ ap Reads (kr .«record» .given .1)) in
-    turned-stops (a .rules .now) (a .bytes .now) before (a .k .0) s _ _ (c .enum-told3 .given .1)
-    (turn-refused (a .rules .now) (a .bytes .now) before _ _ read (given-checked (a .rules .now) before _ _ ∙ sym (g .check-given .ensures) ∙ c .enum-told3 .given .1))
+returns-2 c = turn-refused (given-here (c .before .before)) (c .enum-told3 .given .1)
 
 put-given-requires : tie.Need-put-given-requires
 put-given-requires c κs = search needs
@@ -84,18 +108,7 @@ same-length-3 : tie.Need-same-length-3
 same-length-3 c = search needs
 
 returns-3 : tie.Need-returns-3
-unfolding readingOf recordOf
-returns-3 c = let g = c .before .before in
-    let kr = g .before .before .before .before .before in
-    let rdg = kr .before .before .before in
-    let rd = rdg .before .before in
-    let st = rd .before .before .before .before .before .before in
-    let a = st .args in
-    let s = nodesIn (a .heads .now) (a .positives .now) (a .negatives .now) in
-    let before = take (a .k .0) s in
-    let read = sym (rd .read-record .ensures) ∙ ap readingOf (rdg .reading .given .1 ∙ ap Reads (kr .record2 .given .1)) in
-    turned-stops (a .rules .now) (a .bytes .now) before (a .k .0) s _ _ (c .enum-told5 .given .1)
-    (turn-refused (a .rules .now) (a .bytes .now) before _ _ read (sym (g .check-step .ensures (a .rules .now)) ∙ c .enum-told5 .given .1))
+returns-3 c = turn-refused (step-here (c .before .before)) (c .enum-told5 .given .1)
 
 put-step-requires : tie.Need-put-step-requires
 put-step-requires c κs = search needs
@@ -113,20 +126,9 @@ same-length-6 : tie.Need-same-length-6
 same-length-6 c = search needs
 
 returns-4 : tie.Need-returns-4
-unfolding readingOf recordOf
 returns-4 c = let put = c .before .before .before .before .before .before in
     let told = put .before .before .before .before in
-    let g = told .before .before in
-    let kr = g .before .before in
-    let rdg = kr .before .before .before in
-    let rd = rdg .before .before in
-    let st = rd .before .before .before .before .before .before in
-    let a = st .args in
-    let s = nodesIn (a .heads .now) (a .positives .now) (a .negatives .now) in
-    let before = take (a .k .0) s in
-    let read = sym (rd .read-record .ensures) ∙ ap readingOf (rdg .reading .given .1 ∙ ap Reads (kr .«record» .given .1)) in
-    turned-goes (a .rules .now) (a .bytes .now) before (a .k .0) s _ _ _ (told .enum-told2 .given .1) (put .put-given .ensures)
-    (turn-fine (a .rules .now) (a .bytes .now) before _ read (given-checked (a .rules .now) before _ _ ∙ sym (g .check-given .ensures) ∙ told .enum-told2 .given .1))
+    turn-fine (given-here (told .before .before)) (told .enum-told2 .given .1) (put .put-given .ensures)
 
 same-length-7 : tie.Need-same-length-7
 same-length-7 c = search needs
@@ -138,30 +140,15 @@ same-length-9 : tie.Need-same-length-9
 same-length-9 c = search needs
 
 returns-5 : tie.Need-returns-5
-unfolding readingOf recordOf
 returns-5 c = let put = c .before .before .before .before .before .before in
     let told = put .before .before .before .before in
-    let g = told .before .before in
-    let kr = g .before .before .before .before .before in
-    let rdg = kr .before .before .before in
-    let rd = rdg .before .before in
-    let st = rd .before .before .before .before .before .before in
-    let a = st .args in
-    let s = nodesIn (a .heads .now) (a .positives .now) (a .negatives .now) in
-    let before = take (a .k .0) s in
-    let read = sym (rd .read-record .ensures) ∙ ap readingOf (rdg .reading .given .1 ∙ ap Reads (kr .record2 .given .1)) in
-    turned-goes (a .rules .now) (a .bytes .now) before (a .k .0) s _ _ _ (told .enum-told4 .given .1) (put .put-step .ensures)
-    (turn-fine (a .rules .now) (a .bytes .now) before _ read (sym (g .check-step .ensures (a .rules .now)) ∙ told .enum-told4 .given .1))
+    turn-fine (step-here (told .before .before)) (told .enum-told4 .given .1) (put .put-step .ensures)
 
 returns-6 : tie.Need-returns-6
 unfolding readingOf recordOf
-returns-6 c = let rdg = c .before .before .before in
-    let rd = rdg .before .before in
-    let st = rd .before .before .before .before .before .before in
-    let a = st .args in
-    let s = nodesIn (a .heads .now) (a .positives .now) (a .negatives .now) in
-    let before = take (a .k .0) s in
-    turned-stops (a .rules .now) (a .bytes .now) before (a .k .0) s _ _ refl (turn-drop (a .rules .now) (a .bytes .now) before _ (sym (rd .read-record .ensures) ∙ ap readingOf (rdg .reading .given .1 ∙ ap Reads (c .enum-told6 .given .1))))
+returns-6 c = let y = c .before .before .before in
+    let r = read-of y in
+    turn-drop (start r .args .rules .now) (start r .args .bytes .now) (nodes r) (start r .args .k .0) _ (sym (r .read-record .ensures) ∙ ap readingOf (y .reading .given .1 ∙ ap Reads (c .enum-told6 .given .1)))
 
 pub judge-turn-spec : {M : Type 1} → statement M
 judge-turn-spec =
