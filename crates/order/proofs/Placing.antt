@@ -204,31 +204,45 @@ module _ {h a b t numbers order : List ℕ} {n k : ℕ} (P : Placing h a b t num
     made-old q (suc d) o = sym (place-old s (uses s t) d n old (has-place numbers old n (P .numbered) i same q))
 
     module _ (z : getD numbers i 0 ≡ 0) where
-      new : placed n old ≡ false
-      new = no-place numbers old n (P .numbered) i same z
+      pub unplaced : placed n old ≡ false
+      unplaced = no-place numbers old n (P .numbered) i same z
 
       pub made-given : IsGiven (nodeAt s n) → Made s t n old (n ∷ old)
       unfolding premises
       made-given g zero o = absurd (omega arith)
-      made-given (line, c, e) (suc d) o = sym (place-new s (uses s t) d n old new ∙ rw e)
+      made-given (line, c, e) (suc d) o = sym (place-new s (uses s t) d n old unplaced ∙ rw e)
 
-  module _ {p l r : ℕ} {c : Literals} (e : nodeAt s n ≡ step p l r c) where
-    sound : Sound n (step p l r c)
-    sound = rw e at (P .tables .sound n (P .inside))
+-- node n, which has no place yet, is a step of l and r
+pub record Stepping (h a b t numbers order : List ℕ) (n k l r : ℕ) : Type 0 where
+  pub asked : Placing h a b t numbers order n k
+  pub unplaced : placed n (orderIn order k) ≡ false
+  pub pivot : ℕ
+  pub result : Literals
+  pub is : nodeAt (nodesIn h a b) n ≡ step pivot l r result
 
-    pub left-inside : l < length t
-    left-inside = omega (arith, sound, P .inside, P .counted)
+module _ {h a b t numbers order : List ℕ} {n k l r : ℕ} (d : Stepping h a b t numbers order n k l r) where
+  sound : Sound n (step (d .pivot) l r (d .result))
+  sound = rw (d .is) at (d .asked .tables .sound n (d .asked .inside))
 
-    pub right-inside : r < length t
-    right-inside = omega (arith, sound, P .inside, P .counted)
+  pub left-inside : l < length t
+  left-inside = omega (arith, sound, d .asked .inside, d .asked .counted)
 
-    pub first-below : {x : ℕ} → x ≡ cond (rightFirst (uses s t) l r) r l → x < n
-    first-below f = rw f (cond-both (λ m. m < n) (rightFirst (uses s t) l r) r l (sound .2) (sound .1))
+  pub right-inside : r < length t
+  right-inside = omega (arith, sound, d .asked .inside, d .asked .counted)
 
-    pub second-below : {y : ℕ} → y ≡ cond (rightFirst (uses s t) l r) l r → y < n
-    second-below f = rw f (cond-both (λ m. m < n) (rightFirst (uses s t) l r) l r (sound .1) (sound .2))
+  abbrev First : ℕ → Type 0
+  First x = x ≡ cond (rightFirst (λ m. getD t m 0) l r) r l
 
-    pub made-step : {i x y : ℕ} (o₁ o₂ : List ℕ) → i ≡ n → getD numbers i 0 ≡ 0 → x ≡ cond (rightFirst (uses s t) l r) r l
-        → y ≡ cond (rightFirst (uses s t) l r) l r → Made s t x old o₁ → Made s t y o₁ o₂ → Made s t n old (n ∷ o₂)
-    made-step {i} {x} {y} o₁ o₂ same z f g m₁ m₂ =
-        steps s t n p l r c x y old o₁ o₂ (new same z) e f g (first-below f) (second-below g) m₁ m₂
+  abbrev Second : ℕ → Type 0
+  Second y = y ≡ cond (rightFirst (λ m. getD t m 0) l r) l r
+
+  pub first-below : {x : ℕ} → First x → x < n
+  first-below f = rw f (cond-both (λ m. m < n) (rightFirst (λ m. getD t m 0) l r) r l (sound .2) (sound .1))
+
+  pub second-below : {y : ℕ} → Second y → y < n
+  second-below f = rw f (cond-both (λ m. m < n) (rightFirst (λ m. getD t m 0) l r) l r (sound .1) (sound .2))
+
+  pub made-step : {x y : ℕ} (o₁ o₂ : List ℕ) → First x → Second y
+      → Made (nodesIn h a b) t x (orderIn order k) o₁ → Made (nodesIn h a b) t y o₁ o₂ → Made (nodesIn h a b) t n (orderIn order k) (n ∷ o₂)
+  made-step {x} {y} o₁ o₂ f g m₁ m₂ =
+      steps (nodesIn h a b) t n (d .pivot) l r (d .result) x y (orderIn order k) o₁ o₂ (d .unplaced) (d .is) f g (first-below f) (second-below g) m₁ m₂

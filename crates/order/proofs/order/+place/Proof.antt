@@ -6,7 +6,7 @@ use Rattle.order.proofs.order.put_next.Reads as put-next-reads
 use mathlib.Core.Path.{_∙_}
 use native.Mathlib.Omega.{arith}
 use Rattle.tables.proofs.Found.{found-given, found-step}
-use Rattle.order.proofs.Placing.{made-fits, asks-first, asks-next, made-old, made-given, left-inside, right-inside, first-below, second-below, made-step}
+use Rattle.order.proofs.Placing.{made-fits, asks-first, asks-next, made-old, unplaced, made-given, Stepping, left-inside, right-inside, first-below, second-below, made-step}
 use borrow.Author.Needs.{needs}
 use Prim.Native.Nat.{ℕ, _<_}
 use borrow.Fn.Kinds.{In}
@@ -42,6 +42,24 @@ cs t = (
   place-below t,
   place.Post,
 )
+
+-- ---- what is known where the node is a step
+
+module _ (t : ℕ) (a : place-lts.After-found (cs t) (place-at t) place.Post) where
+  abbrev start : place-lts.Start (cs t) (place-at t) place.Post
+  start = a .before .before .before .before .before .before .before .before .before .before .before .before
+
+  stepping : let s = start .args in
+      Stepping (s .heads .now) (s .positives .now) (s .negatives .now) (s .counts .now) (s .numbers .now) (s .order .now) (s .n .0) (s .next) (a .found .given .0 .1 .0 .0) (a .found .given .0 .1 .1 .0 .0)
+  stepping = record {
+    asked = start .pre .1;
+    unplaced = unplaced (start .pre .1) (a .before .before .before .before .before .wide .ensures) (a .before .before .before .if1 .left);
+    pivot = _;
+    result = _;
+    is = found-step _ _ _ _ _ _ (a .before .before .node-at .ensures) (a .found .given .1);
+  }
+
+-- ---- the needs
 
 place-wide-requires : (t : ℕ) → place-lts.Need-wide-requires (cs t) (place-at t) place.Post
 place-wide-requires t c κs = search needs
@@ -83,45 +101,34 @@ place-returns-2 t c = let p = c .before .before .before .before in
     (λ d h. p .put-next .ensures .0 ∙ made d h, p .put-next .ensures .1)
 
 place-heavier-requires : (t : ℕ) → place-lts.Need-heavier-requires (cs t) (place-at t) place.Post
-place-heavier-requires t c κs = let a = c .before in
-    let P = a .before .before .before .before .before .before .before .before .before .before .before .before .pre .1 in
-    let e = found-step _ _ _ _ _ _ (a .before .before .node-at .ensures) (a .found .given .1) in
-    (left-inside P e, right-inside P e)
+place-heavier-requires t c κs = let d = stepping t (c .before) in (left-inside d, right-inside d)
 
 place-lighter-requires : (t : ℕ) → place-lts.Need-lighter-requires (cs t) (place-at t) place.Post
-place-lighter-requires t c κs = let a = c .before .before in
-    let P = a .before .before .before .before .before .before .before .before .before .before .before .before .pre .1 in
-    let e = found-step _ _ _ _ _ _ (a .before .before .node-at .ensures) (a .found .given .1) in
-    (left-inside P e, right-inside P e)
+place-lighter-requires t c κs = let d = stepping t (c .before .before) in (left-inside d, right-inside d)
 
 place-place-requires : (t : ℕ) → place-lts.Need-place-requires (cs t) (place-at t) place.Post
 place-place-requires t c κs = let v = c .before .before in
     let a = v .before .before .before in
-    let s = a .before .before .before .before .before .before .before .before .before .before .before .before in
-    let P = s .pre .1 in
-    let e = found-step _ _ _ _ _ _ (a .before .before .node-at .ensures) (a .found .given .1) in
-    let i = first-below P e (v .before .heavier .ensures) in
-    (omega (arith, s .pre .0), asks-first P _ i)
+    let i = first-below (stepping t a) (v .before .heavier .ensures) in
+    (omega (arith, start t a .pre .0), asks-first (start t a .pre .1) _ i)
 
 place-place-requires-2 : (t : ℕ) → place-lts.Need-place-requires-2 (cs t) (place-at t) place.Post
 place-place-requires-2 t c κs = let one = c .before .before .before .before .before .before in
     let v = one .before .before .before in
     let a = v .before .before .before in
-    let s = a .before .before .before .before .before .before .before .before .before .before .before .before in
-    let P = s .pre .1 in
-    let e = found-step _ _ _ _ _ _ (a .before .before .node-at .ensures) (a .found .given .1) in
-    let j = second-below P e (v .lighter .ensures) in
-    (omega (arith, s .pre .0), asks-next (asks-first P _ (first-below P e (v .before .heavier .ensures))) _ _ _ _ (one .place .ensures .0) (one .place .ensures .1) (one .place .kept .1 .1 .1 .1 .1 .0) (one .place .kept .1 .1 .1 .1 .1 .1 .0) (omega (arith, P .inside)))
+    let P = start t a .pre .1 in
+    let i = first-below (stepping t a) (v .before .heavier .ensures) in
+    let j = second-below (stepping t a) (v .lighter .ensures) in
+    (omega (arith, start t a .pre .0), asks-next (asks-first P _ i) _ _ _ _ (one .place .ensures .0) (one .place .ensures .1) (one .place .kept .1 .1 .1 .1 .1 .0) (one .place .kept .1 .1 .1 .1 .1 .1 .0) (omega (arith, P .inside)))
 
 place-put-next-requires-2 : (t : ℕ) → place-lts.Need-put-next-requires-2 (cs t) (place-at t) place.Post
 place-put-next-requires-2 t c κs = let two = c .before .before .before .before .before .before in
     let one = two .before .before .before .before .before .before .before in
     let v = one .before .before .before in
     let a = v .before .before .before in
-    let P = a .before .before .before .before .before .before .before .before .before .before .before .before .pre .1 in
-    let e = found-step _ _ _ _ _ _ (a .before .before .node-at .ensures) (a .found .given .1) in
-    let made = made-step P e _ _ (a .before .before .before .before .before .wide .ensures) (a .before .before .before .if1 .left) (v .before .heavier .ensures) (v .lighter .ensures) (one .place .ensures .0) (two .place2 .ensures .0) in
+    let P = start t a .pre .1 in
     let tables = P .tables in
+    let made = made-step (stepping t a) _ _ (v .before .heavier .ensures) (v .lighter .ensures) (one .place .ensures .0) (two .place2 .ensures .0) in
     let long = two .place2 .kept .1 .1 .1 .1 .1 .0 ∙ one .place .kept .1 .1 .1 .1 .1 .0 in
     let room = two .place2 .kept .1 .1 .1 .1 .1 .1 .0 ∙ one .place .kept .1 .1 .1 .1 .1 .1 .0 in
     ((omega (arith, P .inside, P .long), omega (arith, made-fits P _ _ made, P .room), omega (arith, P .room)), two .place2 .ensures .1)
@@ -137,10 +144,7 @@ place-returns-3 t c = let p = c .before .before .before .before in
     let two = p .before .before .before .before .before .before .before in
     let one = two .before .before .before .before .before .before .before in
     let v = one .before .before .before in
-    let a = v .before .before .before in
-    let P = a .before .before .before .before .before .before .before .before .before .before .before .before .pre .1 in
-    let e = found-step _ _ _ _ _ _ (a .before .before .node-at .ensures) (a .found .given .1) in
-    let made = made-step P e _ _ (a .before .before .before .before .before .wide .ensures) (a .before .before .before .if1 .left) (v .before .heavier .ensures) (v .lighter .ensures) (one .place .ensures .0) (two .place2 .ensures .0) in
+    let made = made-step (stepping t (v .before .before .before)) _ _ (v .before .heavier .ensures) (v .lighter .ensures) (one .place .ensures .0) (two .place2 .ensures .0) in
     (λ d h. p .put-next2 .ensures .0 ∙ made d h, p .put-next2 .ensures .1)
 
 pub +place-spec : {M : Type 1} → statement M
