@@ -14,7 +14,8 @@ use Rattle.pressing.specs.Order.{placed, renumber, orderFrom, laid}
 use Rattle.pressing.proofs.Nodes.{length-more, nodeAt-before, nodeAt-end, Parents}
 use Rattle.pressing.proofs.Ordered.{InOrder, Ordering, orderFrom-ends}
 use Rattle.pressing.proofs.Laid.{number-below, length-laid, laid-some, laid-fits}
-use Rattle.order.proofs.Placing.{nodes-falling, nodes-closed}
+use Rattle.tables.proofs.Tables.{nodes-falling}
+use Rattle.order.proofs.Placing.{nodes-closed}
 
 -- ---- the first nodes of three tables
 
@@ -64,7 +65,7 @@ module _ {h a b : List ℕ} (tables : Nodes h a b) (from : ℕ) (inside : from <
   Q n = n < length h
 
   ordering : Ordering s Q from (orderFrom s from)
-  ordering = orderFrom-ends s (nodes-falling h a b tables) Q (nodes-closed h a b tables) from inside
+  ordering = orderFrom-ends s (nodes-falling tables) Q (nodes-closed h a b tables) from inside
 
   pub arranged-order : InOrder s Q (orderFrom s from)
   arranged-order = ordering .each

@@ -4,9 +4,9 @@ use mathlib.Core.Path.{_≡_, refl, sym, ap, _∙_}
 use mathlib.Core.Bool.{Bool, true, false, cond}
 use mathlib.Core.List.{List, [], _∷_}
 use native.Mathlib.Omega.{arith}
-use native.Mathlib.Decide.{ℕ-discrete, decLt}
+use native.Mathlib.Decide.{ℕ-discrete}
 use native.Mathlib.Numerals.{add-one}
-use lib.ListN.{length, getD, set, List·getD-eq-default}
+use lib.ListN.{length, getD, set}
 use lib.Seq.{getD-set-same, getD-set-other}
 use borrow.Author.Tests.{lt-ltb, le-ltb, eq-eqb, ne-eqb}
 use Rattle.base.proofs.Lists.{cond-both}
@@ -15,8 +15,8 @@ use Rattle.sheet.specs.Records.{Node, given, step, nodeAt}
 use Rattle.tables.specs.Tables.{nodesIn, Nodes, Sound}
 use Rattle.pressing.specs.Order.{placed, rightFirst, inTurn, premises, place, numberIn}
 use Rattle.order.specs.Placing.{orderIn, Numbered, Premised, Orderly, Placing}
-use Rattle.pressing.proofs.Nodes.{Parents, Falls, Falling}
-use Rattle.tables.proofs.Tables.{nodes-length}
+use Rattle.pressing.proofs.Nodes.{Parents, falls-further}
+use Rattle.tables.proofs.Tables.{nodes-falling}
 use Rattle.tables.proofs.Found.{IsGiven}
 use Rattle.pressing.proofs.Ordered.{InOrder, place-old, place-new, place-placing}
 use Rattle.pressing.proofs.Counted.{order-fits}
@@ -106,24 +106,9 @@ module _ (s : List Node) (k : ℕ) where
 -- ---- sound tables
 
 module _ (h a b : List ℕ) (tables : Nodes h a b) where
-  sound-falls : (n : ℕ) (m : Node) → Sound n m → Falls n m
-  sound-falls n (given line c) d = tt
-  sound-falls n (step p l r c) d = (d .1, d .2)
-
-  pub nodes-falling : Falling (nodesIn h a b)
-  unfolding nodeAt
-  nodes-falling n = elim (decLt n (length h)) [
-    | yes i ↦ sound-falls n (nodeAt (nodesIn h a b) n) (tables .sound n i)
-    | no i ↦ rw (List·getD-eq-default (nodesIn h a b) _ {n = n} (rw (nodes-length h a b (tables .plus) (tables .minus)) (omega arith))) tt
-  ]
-
-  falls-below : (n : ℕ) (m : Node) → n < length h → Falls n m → Parents (λ k. k < length h) m
-  falls-below n (given line c) i d = tt
-  falls-below n (step p l r c) i d = (omega (arith, d .0), omega (arith, d .1))
-
   -- the nodes are closed under parents
   pub nodes-closed : (n : ℕ) → n < length h → Parents (λ k. k < length h) (nodeAt (nodesIn h a b) n)
-  nodes-closed n i = falls-below n (nodeAt (nodesIn h a b) n) i (nodes-falling n)
+  nodes-closed n i = falls-further n (length h) (nodeAt (nodesIn h a b) n) (omega arith) (nodes-falling tables n)
 
 -- ---- what placing makes of an order
 
@@ -161,7 +146,7 @@ module _ {h a b t numbers order : List ℕ} {n k : ℕ} (P : Placing h a b t num
   made-in : (new : List ℕ) → Made s t n old new → InOrder s (Below (length h)) new
   made-in new m =
       rw (m (suc n) (omega arith))
-      (place-placing s (uses s t) (nodes-falling h a b (P .tables)) (Below (length h)) (nodes-closed h a b (P .tables)) (suc n) n
+      (place-placing s (uses s t) (nodes-falling (P .tables)) (Below (length h)) (nodes-closed h a b (P .tables)) (suc n) n
       old (omega arith) (P .inside) (orderly-in s (length h) old (P .orderly)) .order)
 
   -- there is room for n

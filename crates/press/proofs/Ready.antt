@@ -1,5 +1,5 @@
 -- A sheet that passes checks 1 to 5 and is judged proper can be pressed: its nodes are sound, and there is room for what is emitted.
-use mathlib.Core.Path.{_≡_, refl, sym, ap, _∙_}
+use mathlib.Core.Path.{_≡_, sym, ap, _∙_}
 use mathlib.Core.List.{List, _++_}
 use Prim.Native.Nat.{ℕ, pred, _-_, _*_, _/_, _<_, _≤_}
 use native.Mathlib.Omega.{arith}
@@ -17,25 +17,24 @@ use Rattle.pressing.specs.Drops.{withDrops}
 use Rattle.clause.specs.Clauses.{none}
 use Rattle.pressing.specs.Trim.{sink, usesFrom}
 use Rattle.pressing.specs.Recycle.{reset, recycle, fates}
-use Rattle.pressing.specs.Rebuild.{Built, built, standIn, rebuild}
+use Rattle.pressing.specs.Rebuild.{Built, built, standIn}
 use Rattle.pressing.specs.Order.{orderFrom, laid}
 use Rattle.pressing.specs.Press.{Outcome, outcome, emit, recycled, arranged, pressed, byJudging, byLengths, press}
-use Rattle.pressing.proofs.Proper.{ProperNode, AllProper, Kept}
+use Rattle.pressing.proofs.Proper.{ProperNode, AllProper}
 use Rattle.pressing.proofs.Nodes.{proper-falling}
 use Rattle.pressing.proofs.Judged.{judged-proper}
-use Rattle.pressing.proofs.Rebuilt.{Rebuilding, rebuilt}
-use Rattle.rebuild.proofs.Sounds.{AllSound, sound-falling}
+use Rattle.pressing.proofs.Rebuilt.{rebuilt}
 use Rattle.pressing.proofs.Drops.{length-withDrops-most}
 use Rattle.pressing.proofs.Kept.{pressed-kept}
 use Rattle.pressing.proofs.Accepts.{Sizes, press-fine}
 use Rattle.tables.specs.Tables.{nodesIn, Sound, Nodes}
-use Rattle.tables.proofs.Tables.{nodes-length}
+use Rattle.tables.proofs.Tables.{nodes-length, nodes-falling}
 use Rattle.press.specs.declared.PressAnswer.the-variants.{Refused}
 use Rattle.judge.specs.declared.judge.Judgement.{Judgement}
 use Rattle.judge.specs.declared.judge.Judgement.the-variants as J
 use Rattle.press.specs.Said.{said}
 use Rattle.judge.specs.Turns.{judgedIn}
-use Rattle.emit.specs.Marking.{LineBelow, LinesBelow, Emittable}
+use Rattle.emit.specs.Marking.{LineBelow, Emittable}
 
 proper-sound : (rules : List ℕ) (s : List Node) (n : ℕ) (x : Node) → ruleLines narrow rules ≤ 1024 → ProperNode narrow rules s n x → Sound n x
 proper-sound rules s n (given line c) few d = omega (arith, d .0)
@@ -119,8 +118,7 @@ module _ (h a b h′ a′ b′ u rest : List ℕ) (tables : Nodes h a b) (some :
   unfolding recycled
   from-below =
       let table = recycle (reset (usesFrom s (sink s))) none s (sink s) in
-      let sound : AllSound s = λ n i. tables .sound n (rw (← nodes-many) i) in
-      let low = rebuilt s (fates s table) (sound-falling s sound) .low (sink s) in
+      let low = rebuilt s (fates s table) (nodes-falling tables) .low (sink s) in
       let down : from ≤ sink s = rw (from-is, e) low in
       omega (arith, down, sink-below)
 

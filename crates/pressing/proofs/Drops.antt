@@ -6,9 +6,9 @@ use mathlib.Core.Path.{_≡_, refl, sym, ap, _∙_}
 use mathlib.Core.Logic.{_≢_, _⊎_, inl, inr}
 use mathlib.Core.List.{List, [], _∷_, _++_, append-nil}
 use native.Mathlib.Omega.{arith}
-use native.Mathlib.Decide.{ℕ-discrete, decLe, decLt}
+use native.Mathlib.Decide.{ℕ-discrete, decLe}
 use lib.Dec.{eqb}
-use lib.ListN.{length, length-append, List·getD-eq-default}
+use lib.ListN.{length, length-append}
 use borrow.Author.Tests.{eqb-true, eqb-false, ne-eqb, not-true, not-false}
 use Rattle.sheet.specs.Records.{Node, given, step, Record, node, drop, nodeAt}
 use Rattle.sheet.specs.Counts.{nodesOf}
@@ -17,7 +17,7 @@ use Rattle.pressing.specs.Trim.{usesIn, uses}
 use Rattle.pressing.specs.Order.{placed}
 use Rattle.pressing.specs.Drops.{dropLast, dropsAfter, withDrops}
 use Rattle.pressing.proofs.Proper.{AllUsed}
-use Rattle.pressing.proofs.Nodes.{Falls, Falling}
+use Rattle.pressing.proofs.Nodes.{Falls, Falling, falls-further, everywhere}
 use Rattle.pressing.proofs.Trimmed.{uses-left, uses-right, used-parent}
 use Rattle.pressing.proofs.Ordered.{placed-none, placed-cases, placed-here, placed-there}
 use Rattle.pressing.proofs.Playing.{count, count-same, count-most, count-all, count-one-more, usedIn, used-true}
@@ -222,18 +222,11 @@ length-below K (x ∷ s) f =
     rw (drops-all x s)
     (omega (arith, length-append (dropAll s (parentsOf x)) (withDrops s), length-below K s (λ n. f (suc n))))
 
-falls-further : (m n : ℕ) (x : Node) → m ≤ n → Falls m x → Falls n x
-falls-further m n (given line c) h f = tt
-falls-further m n (step p l r c) h f = (omega (arith, f .0), omega (arith, f .1))
-
 module _ (s : List Node) (earlier : Falling s) where
   -- no node uses the last
   below-last : (n : ℕ) → Falls (pred (length s)) (nodeAt s n)
-  unfolding nodeAt
-  below-last n = elim (decLt n (length s)) [
-    | yes h ↦ falls-further n (pred (length s)) (nodeAt s n) (omega arith) (earlier n)
-    | no h ↦ rw (List·getD-eq-default s _ {n = n} (omega arith)) tt
-  ]
+  below-last =
+      everywhere (λ n x. Falls (pred (length s)) x) s (λ n. tt) (λ n h. falls-further n (pred (length s)) (nodeAt s n) (omega arith) (earlier n))
 
   length-is : length (withDrops s) ≡ length s + count (pred (length s)) (usedIn s)
   length-is = length-below (pred (length s)) s below-last

@@ -6,6 +6,7 @@ use native.Mathlib.Omega.{arith}
 use native.Mathlib.Decide.{ℕ-discrete, decLt}
 use lib.ListN.{length, length-append, List·getD-append, List·getD-eq-default}
 use lib.Seq.{getD-append-seam}
+use Rattle.clause.specs.Clauses.{none}
 use Rattle.sheet.specs.Editions.{Edition}
 use Rattle.sheet.specs.Records.{Node, given, step, nodeAt}
 use Rattle.sheet.specs.Counts.{stepOf, stepsOf}
@@ -68,13 +69,18 @@ proper-falls : (e : Edition) (rules : List ℕ) (s : List Node) (n : ℕ) (m : N
 proper-falls e rules s n (given line c) d = tt
 proper-falls e rules s n (step p l r c) d = (d .1, d .2)
 
--- past the end there are no steps
-falling-within : (s : List Node) → ((n : ℕ) → n < length s → Falls n (nodeAt s n)) → Falling s
+pub falls-further : (m n : ℕ) (x : Node) → m ≤ n → Falls m x → Falls n x
+falls-further m n (given line c) h f = tt
+falls-further m n (step p l r c) h f = (omega (arith, f .0), omega (arith, f .1))
+
+-- what holds of each node holds at every number, if it holds of the empty given that stands past the end
+pub everywhere : (P : ℕ → Node → Type 0) (s : List Node) → ((n : ℕ) → P n (given 0 none)) → ((n : ℕ) → n < length s → P n (nodeAt s n))
+    → (n : ℕ) → P n (nodeAt s n)
 unfolding nodeAt
-falling-within s f n = elim (decLt n (length s)) [ yes h ↦ f n h | no h ↦ rw (List·getD-eq-default s _ {n = n} (omega arith)) tt ]
+everywhere P s z f n = elim (decLt n (length s)) [ yes h ↦ f n h | no h ↦ rw (List·getD-eq-default s _ {n = n} (omega arith)) (z n) ]
 
 pub proper-falling : (e : Edition) (rules : List ℕ) (s : List Node) → AllProper e rules s → Falling s
-proper-falling e rules s f = falling-within s (λ n h. proper-falls e rules s n (nodeAt s n) (f n h))
+proper-falling e rules s f = everywhere (λ n m. Falls n m) s (λ n. tt) (λ n h. proper-falls e rules s n (nodeAt s n) (f n h))
 
 -- what follows for each number from all smaller ones
 pub by-rising : (P : ℕ → Type 0) → ((n : ℕ) → ((m : ℕ) → m < n → P m) → P n) → (n : ℕ) → P n

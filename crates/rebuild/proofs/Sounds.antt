@@ -3,8 +3,7 @@ use Prim.Native.Nat.{ℕ, zero, suc, _+_, _≤_, _<_}
 use mathlib.Core.Path.{_≡_, sym, ap, _∙_}
 use mathlib.Core.List.{List, [], _∷_}
 use native.Mathlib.Omega.{arith}
-use native.Mathlib.Decide.{decLt}
-use lib.ListN.{length, set, replicate, List·getD-eq-default}
+use lib.ListN.{length, set, replicate}
 use Rattle.base.specs.Folds.{rise}
 use Rattle.base.proofs.Folds.{rise-by, rise-next}
 use Rattle.clause.specs.Clauses.{Literals}
@@ -15,12 +14,9 @@ use Rattle.pressing.specs.Rebuild.{Built, built, standIn, Way, takeLeft, takeRi
 use Rattle.pressing.specs.Press.{recycled}
 use Rattle.tables.specs.Tables.{nodesIn, Sound, Nodes}
 use Rattle.rebuild.specs.Ways.{StandIns}
-use Rattle.pressing.proofs.Nodes.{Falls, Falling}
-use Rattle.tables.proofs.Tables.{nodes-length}
+use Rattle.pressing.proofs.Nodes.{Falls, everywhere}
+use Rattle.tables.proofs.Tables.{nodes-length, AllSound, sound-falling, nodes-sound, nodes-falling}
 use Rattle.pressing.proofs.Rebuilt.{Rebuilding, rebuilding, rebuilt}
-
-abbrev pub AllSound : List Node → Type 0
-AllSound s = (n : ℕ) → n < length s → Sound n (nodeAt s n)
 
 -- ---- a sound node is of sound numbers, and its parents are smaller
 
@@ -28,24 +24,16 @@ abbrev Numbers : Node → Type 0
 Numbers (given line c) = line < 1024
 Numbers (step p l r c) = p < 64
 
-sound-parts : (n : ℕ) (m : Node) → Sound n m → Numbers m × Falls n m
-sound-parts n (given line c) h = (h, tt)
-sound-parts n (step p l r c) h = (h .0, (h .1, h .2))
+sound-numbers : (n : ℕ) (m : Node) → Sound n m → Numbers m
+sound-numbers n (given line c) h = h
+sound-numbers n (step p l r c) h = h .0
 
 parts-sound : (n : ℕ) (m : Node) → Numbers m → Falls n m → Sound n m
 parts-sound n (given line c) h f = h
 parts-sound n (step p l r c) h f = (h, f .0, f .1)
 
--- past the end there is an empty given
-everywhere : (s : List Node) → AllSound s → (n : ℕ) → Numbers (nodeAt s n) × Falls n (nodeAt s n)
-unfolding nodeAt
-everywhere s f n = elim (decLt n (length s)) [
-  | yes h ↦ sound-parts n (nodeAt s n) (f n h)
-  | no h ↦ rw (List·getD-eq-default s _ {n = n} (omega arith)) (omega arith, tt)
-]
-
-pub sound-falling : (s : List Node) → AllSound s → Falling s
-sound-falling s f n = everywhere s f n .1
+all-numbers : (s : List Node) → AllSound s → (n : ℕ) → Numbers (nodeAt s n)
+all-numbers s f = everywhere (λ n m. Numbers m) s (λ n. omega arith) (λ n h. sound-numbers n (nodeAt s n) (f n h))
 
 -- ---- the rebuild
 
@@ -75,7 +63,7 @@ module _ (s : List Node) (says : ℕ → Fate) (sound : AllSound s) where
   rebuilt-sound n h =
       parts-sound n (nodeAt (rebuild s says .nodes) n)
       (rise-by (λ i b. (k : ℕ) → Numbers (nodeAt (b .nodes) k)) (rebuildTurn s says) (length s) (built s (replicate (length s) 0))
-      (λ i b l f. numbers-renewed i (nodeAt s i) (says i) b (everywhere s sound i .0) f) (λ k. everywhere s sound k .0) n)
+      (λ i b l f. numbers-renewed i (nodeAt s i) (says i) b (all-numbers s sound i) f) (all-numbers s sound) n)
       (rebuilt s says (sound-falling s sound) .falling n)
 
 -- ---- its loop over the tables
@@ -90,11 +78,8 @@ module _ (h a b : List ℕ) (tables : Nodes h a b) (table : List Reach) where
   long : length s ≡ length h
   long = nodes-length h a b (tables .plus) (tables .minus)
 
-  tables-sound : AllSound s
-  tables-sound n i = tables .sound n (rw long at i)
-
   so-far : (i : ℕ) → i ≤ length h → Rebuilding s (fates s table) i (after i)
-  so-far i o = rebuilding s (fates s table) (sound-falling s tables-sound) i (rw long o)
+  so-far i o = rebuilding s (fates s table) (nodes-falling tables) i (rw long o)
 
   pub rebuild-start : (u cleared : List ℕ) → length u ≡ length h → cleared ≡ replicate (length u) 0 → built s cleared ≡ after 0
   unfolding rise
@@ -137,5 +122,5 @@ recycled-sound fit S h a b h′ a′ b′ u tables p q r e = record {
       let table = recycle fit S (nodesIn h a b) (sink (nodesIn h a b)) in
       let same : nodesIn h′ a′ b′ ≡ rebuild (nodesIn h a b) (fates (nodesIn h a b) table) .nodes = ap (λ (b : Built). b .nodes) e in
       let long : length (nodesIn h′ a′ b′) ≡ length h′ = nodes-length h′ a′ b′ (q ∙ sym p) (r ∙ sym p) in
-      rw same (rebuilt-sound (nodesIn h a b) (fates (nodesIn h a b) table) (tables-sound h a b tables table) n (rw (← same, long) i));
+      rw same (rebuilt-sound (nodesIn h a b) (fates (nodesIn h a b) table) (nodes-sound tables) n (rw (← same, long) i));
 }

@@ -1,16 +1,16 @@
--- Laws of the press's tables: what the words of a node say, and what a store makes of the nodes.
-use mathlib.Core.Path.{_≡_, refl, sym, ap, ap₂, _∙_}
+-- Laws of the press's tables: what the words of a node say, what a store makes of the nodes, and where the parents of sound nodes stand.
+use mathlib.Core.Path.{_≡_, refl, sym, _∙_}
 use mathlib.Core.Bool.{Bool, true, false, cond}
 use mathlib.Core.List.{List}
 use Prim.Native.Nat.{ℕ, _+_, _*_, _/_, _%_, _<_}
 use native.Mathlib.Omega.{arith}
-use borrow.Author.Tests.{eq-eqb, ne-eqb}
 use lib.Dec.{eqb}
 use lib.ListN.{length, getD, set}
 use Rattle.base.proofs.Lists.{zip3-set, zip3-getD, zip3-length}
 use Rattle.clause.specs.Clauses.{literals}
 use Rattle.sheet.specs.Records.{Node, given, step, clause, nodeAt}
-use Rattle.tables.specs.Tables.{nodeOf, nodesIn}
+use Rattle.tables.specs.Tables.{nodeOf, nodesIn, Sound, Nodes}
+use Rattle.pressing.proofs.Nodes.{Falls, Falling, everywhere}
 
 pub given-head : (line p q : ℕ) → nodeOf (1 + line * 281474976710656) p q ≡ given line (literals p q)
 unfolding nodeOf
@@ -60,3 +60,22 @@ pub clauses-at : (heads positives negatives : List ℕ) (i n : ℕ) → length n
     → length heads ≡ length positives → literals (getD positives i 0) (getD negatives i 0) ≡ clause (nodeAt (nodesIn heads positives negatives) n)
 clauses-at heads positives negatives i n m h e l =
     rw (e, nodes-at heads positives negatives (sym l) (m ∙ sym l) n (omega arith), clause-word)
+
+-- ---- sound nodes: their parents stand earlier
+
+abbrev pub AllSound : List Node → Type 0
+AllSound s = (n : ℕ) → n < length s → Sound n (nodeAt s n)
+
+sound-falls : (n : ℕ) (m : Node) → Sound n m → Falls n m
+sound-falls n (given line c) d = tt
+sound-falls n (step p l r c) d = (d .1, d .2)
+
+pub sound-falling : (s : List Node) → AllSound s → Falling s
+sound-falling s f = everywhere (λ n m. Falls n m) s (λ n. tt) (λ n h. sound-falls n (nodeAt s n) (f n h))
+
+module _ {heads positives negatives : List ℕ} (t : Nodes heads positives negatives) where
+  pub nodes-sound : AllSound (nodesIn heads positives negatives)
+  nodes-sound n i = t .sound n (rw (nodes-length heads positives negatives (t .plus) (t .minus)) at i)
+
+  pub nodes-falling : Falling (nodesIn heads positives negatives)
+  nodes-falling = sound-falling (nodesIn heads positives negatives) nodes-sound
