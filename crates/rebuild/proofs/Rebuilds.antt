@@ -1,6 +1,6 @@
 -- One turn of the rebuild in the tables, by what the code finds at the node.
 use Prim.Native.Nat.{ℕ}
-use mathlib.Core.Path.{_≡_}
+use mathlib.Core.Path.{_≡_, sym}
 use mathlib.Core.List.{List}
 use lib.ListN.{getD, set}
 use Rattle.clause.specs.Clauses.{Literals, none, resolvent}
@@ -26,27 +26,40 @@ clause-standing s t n m c q e = rw (← q) e
 
 -- ---- a step that is kept
 
-module _ (s : List Node) (t : List ℕ) (n p l r : ℕ) where
+-- the stand-ins x and y of the parents l and r, their clauses, and the way that the code goes
+pub record Ways (s : List Node) (t : List ℕ) (p l r : ℕ) (z : Cut) (x y : ℕ) (C D : Literals) (w : CodeWay) : Type 0 where
+  pub left : x ≡ getD t l 0
+  pub right : y ≡ getD t r 0
+  pub left-clause : C ≡ standing (built s t) l
+  pub right-clause : D ≡ standing (built s t) r
+  pub told : wayIn w ≡ wayOf z p C D
+
+module _ {s : List Node} {t : List ℕ} {p l r : ℕ} {z : Cut} {x y : ℕ} {C D : Literals} {w : CodeWay} (d : Ways s t p l r z x y C D w) (n : ℕ) where
   abbrev b : Built
   b = built s t
 
-  pub step-made : (s′ : List Node) (t′ : List ℕ) (x y : ℕ) (R : Literals) → R ≡ resolvent p (standing b l) (standing b r) → x ≡ getD t l 0 → y ≡ getD t r 0
-      → s′ ≡ set s n (step p x y R) → t′ ≡ set t n n → built s′ t′ ≡ newStep n p l r b
+  abbrev renewed : Built
+  renewed = renew n (step p l r none) (kept z) b
+
+  the-way : wayOf z p (standing b l) (standing b r) ≡ wayIn w
+  the-way = rw (← d .left-clause, ← d .right-clause) (sym (d .told))
+
+  pub takes-left : {t′ : List ℕ} → w ≡ TakeLeft → t′ ≡ set t n x → built s t′ ≡ renewed
+  unfolding renew wayIn byWay standsFor standIn
+  takes-left q h = rw (the-way, q, h, d .left)
+
+  pub takes-right : {t′ : List ℕ} → w ≡ TakeRight → t′ ≡ set t n y → built s t′ ≡ renewed
+  unfolding renew wayIn byWay standsFor standIn
+  takes-right q h = rw (the-way, q, h, d .right)
+
+  step-made : {s′ : List Node} {t′ : List ℕ} {R : Literals} → R ≡ resolvent p C D → s′ ≡ set s n (step p x y R) → t′ ≡ set t n n → built s′ t′ ≡ newStep n p l r b
   unfolding newStep standIn
-  step-made s′ t′ x y R d e f g h = rw (g, h, d, e, f)
+  step-made e g h = rw (g, h, e, d .left-clause, d .right-clause, d .left, d .right)
 
-  module _ (z : Cut) (w : CodeWay) (told : wayIn w ≡ wayOf z p (standing b l) (standing b r)) where
-    pub takes-left : (t′ : List ℕ) (m : ℕ) → w ≡ TakeLeft → m ≡ getD t l 0 → t′ ≡ set t n m → built s t′ ≡ renew n (step p l r none) (kept z) b
-    unfolding renew wayIn byWay standsFor standIn
-    takes-left t′ m q e h = rw (← told, q, h, e)
-
-    pub takes-right : (t′ : List ℕ) (m : ℕ) → w ≡ TakeRight → m ≡ getD t r 0 → t′ ≡ set t n m → built s t′ ≡ renew n (step p l r none) (kept z) b
-    unfolding renew wayIn byWay standsFor standIn
-    takes-right t′ m q e h = rw (← told, q, h, e)
-
-    pub makes-step : (next : Built) → w ≡ StepAnew → next ≡ newStep n p l r b → next ≡ renew n (step p l r none) (kept z) b
-    unfolding renew wayIn byWay
-    makes-step next q h = rw (← told, q) h
+  pub makes-step : {s′ : List Node} {t′ : List ℕ} {R : Literals} → w ≡ StepAnew → R ≡ resolvent p C D → s′ ≡ set s n (step p x y R) → t′ ≡ set t n n
+      → built s′ t′ ≡ renewed
+  unfolding renew wayIn byWay
+  makes-step q e g h = rw (the-way, q) (step-made e g h)
 
 -- ---- a node
 

@@ -2,11 +2,11 @@
 ghost use mathlib.Core.Path.{_≡_};
 ghost use Prim.Native.Nat.{_<_};
 ghost use lib.ListN.{length, set, getD};
-ghost use Rattle.clause.specs.Clauses.{none, resolvent};
+ghost use Rattle.clause.specs.Clauses.{none};
 ghost use Rattle.clause.specs.Denote.{literalsOf};
 ghost use Rattle.sheet.specs.Records.{step, nodeAt};
 ghost use Rattle.pressing.specs.Recycle.{reached, kept, fate, fates};
-ghost use Rattle.pressing.specs.Rebuild.{built, standing, wayOf, newStep, renew, rebuildTurn, rebuild};
+ghost use Rattle.pressing.specs.Rebuild.{built, wayOf, renew, rebuildTurn, rebuild};
 ghost use Rattle.tables.specs.Tables.{nodesIn, reachesIn, Sound, Nodes};
 ghost use Rattle.recycle.specs.Passes.{cutIn};
 ghost use Rattle.rebuild.specs.Ways.{wayIn, StandIns};
@@ -65,79 +65,7 @@ fn stands_for(stand_ins: &mut [u16], n: NodeNo, m: NodeNo)
     stand_ins[i] = m.0;
 }
 
-// The clause of node n's stand-in.
-fn standing(
-    heads: &[u64],
-    positives: &[u64],
-    negatives: &[u64],
-    stand_ins: &[u16],
-    n: NodeNo,
-) -> Clause
-    requires { ⌜ (length (now positives) ≡ length (now heads)) × (length (now negatives) ≡ length (now heads)) × StandIns (length (now heads)) (now «stand_ins») × (n .0 < length (now heads)) ⌝ }
-    ensures { λ c. ⌜ literalsOf c ≡ standing (built (nodesIn (now (heads .entry)) (now (positives .entry)) (now (negatives .entry))) (now («stand_ins» .entry))) (n .0) ⌝ }
-{
-    let m = stand_in(stand_ins, n);
-    node::clause_at(positives, negatives, m)
-}
-
-fn way_at(
-    heads: &[u64],
-    positives: &[u64],
-    negatives: &[u64],
-    stand_ins: &[u16],
-    cut: Cut,
-    p: u8,
-    l: NodeNo,
-    r: NodeNo,
-) -> Way
-    requires { ⌜ (length (now positives) ≡ length (now heads)) × (length (now negatives) ≡ length (now heads)) × StandIns (length (now heads)) (now «stand_ins») × (l .0 < length (now heads)) × (r .0 < length (now heads)) ⌝ }
-    ensures { λ w. ⌜ (let b = built (nodesIn (now (heads .entry)) (now (positives .entry)) (now (negatives .entry))) (now («stand_ins» .entry)) in wayIn w ≡ wayOf (cutIn cut) p (standing b (l .0)) (standing b (r .0))) ⌝ }
-{
-    let left = standing(heads, positives, negatives, stand_ins, l);
-    let right = standing(heads, positives, negatives, stand_ins, r);
-    way_of(cut, p, left, right)
-}
-
-// The result of the step on the parents' stand-ins.
-fn result_at(
-    heads: &[u64],
-    positives: &[u64],
-    negatives: &[u64],
-    stand_ins: &[u16],
-    p: u8,
-    l: NodeNo,
-    r: NodeNo,
-) -> Clause
-    requires { ⌜ (length (now positives) ≡ length (now heads)) × (length (now negatives) ≡ length (now heads)) × StandIns (length (now heads)) (now «stand_ins») × (l .0 < length (now heads)) × (r .0 < length (now heads)) ⌝ }
-    ensures { λ c. ⌜ (let b = built (nodesIn (now (heads .entry)) (now (positives .entry)) (now (negatives .entry))) (now («stand_ins» .entry)) in literalsOf c ≡ resolvent p (standing b (l .0)) (standing b (r .0))) ⌝ }
-{
-    let left = standing(heads, positives, negatives, stand_ins, l);
-    let right = standing(heads, positives, negatives, stand_ins, r);
-    clause::resolve(left, right, p)
-}
-
-// "A new step, which keeps the old one's number, pivot and sides."
-fn new_step(
-    heads: &mut [u64],
-    positives: &mut [u64],
-    negatives: &mut [u64],
-    n: NodeNo,
-    p: u8,
-    l: NodeNo,
-    r: NodeNo,
-    stand_ins: &mut [u16],
-)
-    requires { ⌜ (length (now positives) ≡ length (now heads)) × (length (now negatives) ≡ length (now heads)) × StandIns (length (now heads)) (now «stand_ins») ⌝ }
-    requires { ⌜ (n .0 < length (now heads)) × (l .0 < length (now heads)) × (r .0 < length (now heads)) ⌝ }
-    ensures { λ _. ⌜ built (nodesIn (now (heads .exit)) (now (positives .exit)) (now (negatives .exit))) (now («stand_ins» .exit)) ≡ newStep (n .0) p (l .0) (r .0) (built (nodesIn (now (heads .entry)) (now (positives .entry)) (now (negatives .entry))) (now («stand_ins» .entry))) ⌝ }
-{
-    let result = result_at(heads, positives, negatives, stand_ins, p, l, r);
-    let left = stand_in(stand_ins, l);
-    let right = stand_in(stand_ins, r);
-    node::put_step(heads, positives, negatives, n, p, left, right, result);
-    stands_for(stand_ins, n, n);
-}
-
+// Node n, a step with a cut, by the ways above. "A new step, which keeps the old one's number, pivot and sides."
 fn renew_step(
     heads: &mut [u64],
     positives: &mut [u64],
@@ -153,20 +81,24 @@ fn renew_step(
     requires { ⌜ (n .0 < length (now heads)) × (l .0 < length (now heads)) × (r .0 < length (now heads)) ⌝ }
     ensures { λ _. ⌜ built (nodesIn (now (heads .exit)) (now (positives .exit)) (now (negatives .exit))) (now («stand_ins» .exit)) ≡ renew (n .0) (step p (l .0) (r .0) none) (kept (cutIn cut)) (built (nodesIn (now (heads .entry)) (now (positives .entry)) (now (negatives .entry))) (now («stand_ins» .entry))) ⌝ }
 {
-    let way = way_at(heads, positives, negatives, stand_ins, cut, p, l, r);
+    let left = stand_in(stand_ins, l);
+    let right = stand_in(stand_ins, r);
+    let a = node::clause_at(positives, negatives, left);
+    let b = node::clause_at(positives, negatives, right);
+    let way = way_of(cut, p, a, b);
     match way {
         Way::TakeLeft => {
-            let left = stand_in(stand_ins, l);
             stands_for(stand_ins, n, left);
             return;
         }
         Way::TakeRight => {
-            let right = stand_in(stand_ins, r);
             stands_for(stand_ins, n, right);
             return;
         }
         Way::StepAnew => {
-            new_step(heads, positives, negatives, n, p, l, r, stand_ins);
+            let result = clause::resolve(a, b, p);
+            node::put_step(heads, positives, negatives, n, p, left, right, result);
+            stands_for(stand_ins, n, n);
             return;
         }
     }
