@@ -65,7 +65,7 @@ fn stands_for(stand_ins: &mut [u16], n: NodeNo, m: NodeNo)
     stand_ins[i] = m.0;
 }
 
-// Node n, a step with a cut, by the ways above. "A new step, which keeps the old one's number, pivot and sides."
+// Node n, a step, goes its way. "A new step, which keeps the old one's number, pivot and sides."
 fn renew_step(
     heads: &mut [u64],
     positives: &mut [u64],

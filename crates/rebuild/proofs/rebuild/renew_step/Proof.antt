@@ -54,103 +54,78 @@ module _ (w : tie.After-way-of) where
 stand-in-requires : tie.Need-stand-in-requires
 stand-in-requires c κs = search needs
 
--- src/rebuild.rt:85:9
 stand-in-requires-2 : tie.Need-stand-in-requires-2
 stand-in-requires-2 c κs = search needs
 
--- src/rebuild.rt:86:9
 clause-at-requires : tie.Need-clause-at-requires
 clause-at-requires c κs = let k = c .before .before in (same k, left-inside k)
 
--- src/rebuild.rt:87:9
 clause-at-requires-2 : tie.Need-clause-at-requires-2
 clause-at-requires-2 c κs = let k = c .before .before .before .before .before in (same k, right-inside k)
 
--- src/rebuild.rt:88:9
 way-of-requires : tie.Need-way-of-requires
 way-of-requires c κs = search needs
 
--- src/rebuild.rt:91:24
 enum-told : tie.Need-enum-told
 enum-told c = search needs
 
--- src/rebuild.rt:91:13
 stands-for-requires : tie.Need-stands-for-requires
 stands-for-requires c κs = node-inside (looked (c .before .before .before))
 
--- src/rebuild.rt:92:13
 same-length : tie.Need-same-length
 same-length c = search needs
 
--- src/rebuild.rt:92:13
 same-length-2 : tie.Need-same-length-2
 same-length-2 c = search needs
 
--- src/rebuild.rt:92:13
 same-length-3 : tie.Need-same-length-3
 same-length-3 c = search needs
 
--- src/rebuild.rt:92:13
 returns : tie.Need-returns
 returns c = let w = c .before .before .before .before .before .before in takes-left (ways w) _ (c .before .before .before .before .enum-told .given .1) (c .before .before .stands-for .ensures)
 
--- src/rebuild.rt:95:24
 enum-told-2 : tie.Need-enum-told-2
 enum-told-2 c = search needs
 
--- src/rebuild.rt:95:13
 stands-for-requires-2 : tie.Need-stands-for-requires-2
 stands-for-requires-2 c κs = node-inside (looked (c .before .before .before))
 
--- src/rebuild.rt:96:13
 same-length-4 : tie.Need-same-length-4
 same-length-4 c = search needs
 
--- src/rebuild.rt:96:13
 same-length-5 : tie.Need-same-length-5
 same-length-5 c = search needs
 
--- src/rebuild.rt:96:13
 same-length-6 : tie.Need-same-length-6
 same-length-6 c = search needs
 
--- src/rebuild.rt:96:13
 returns-2 : tie.Need-returns-2
 returns-2 c = let w = c .before .before .before .before .before .before in takes-right (ways w) _ (c .before .before .before .before .enum-told2 .given .1) (c .before .before .stands-for2 .ensures)
 
--- src/rebuild.rt:99:17
 enum-told-3 : tie.Need-enum-told-3
 enum-told-3 c = search needs
 
--- src/rebuild.rt:99:17
 resolve-requires : tie.Need-resolve-requires
 resolve-requires c κs = search needs
 
--- src/rebuild.rt:100:13
 put-step-requires : tie.Need-put-step-requires
 put-step-requires c κs = let st = start (looked (c .before .before .before .before .before .before)) in (st .pre .0 .0, st .pre .0 .1, st .pre .1 .0)
 
--- src/rebuild.rt:101:13
 stands-for-requires-3 : tie.Need-stands-for-requires-3
 stands-for-requires-3 c κs = node-inside (looked (c .before .before .before .before .before .before .before .before .before .before .before .before .before .before))
 
--- src/rebuild.rt:102:13
 same-length-7 : tie.Need-same-length-7
 same-length-7 c = search needs
 
--- src/rebuild.rt:102:13
 same-length-8 : tie.Need-same-length-8
 same-length-8 c = search needs
 
--- src/rebuild.rt:102:13
 same-length-9 : tie.Need-same-length-9
 same-length-9 c = search needs
 
--- src/rebuild.rt:102:13
 same-length-10 : tie.Need-same-length-10
 same-length-10 c = search needs
 
--- src/rebuild.rt:102:13
 returns-3 : tie.Need-returns-3
 returns-3 c = let v = c .before .before .before .before .before .before .before .before .before .before .before .before .before .before in
     makes-step (ways (v .before .before .before)) _ (v .before .enum-told3 .given .1) (v .resolve .ensures) (c .before .before .before .before .before .before .before .before .before .before .put-step .ensures) (c .before .before .stands-for3 .ensures)
