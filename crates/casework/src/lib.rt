@@ -15,7 +15,8 @@
 
 mod press_case;
 mod replay_case;
-mod text;
+
+use stdio::text;
 
 struct Header {
     kind: u8,
@@ -35,28 +36,18 @@ fn header_of(bytes: &[u8; 10]) -> Header {
     }
 }
 
-// Whether as many bytes were there.
-fn is_read(buf: &mut [u8], n: usize) -> bool {
-    let k = text::least(n, buf.len());
-    io::read_full(0, &mut buf[..k]) == k
-}
-
 fn print_header(number: u64, head: Header) {
-    io::write_all(1, b"case ");
-    io::print_decimal(1, number);
+    text::print_number(b"case ", number);
     if head.kind == 0 {
-        io::write_all(1, b" press ");
+        text::print(b" press");
     } else {
-        io::write_all(1, b" replay ");
+        text::print(b" replay");
     }
-    text::print_number(head.sheet);
-    io::write_all(1, b" ");
-    text::print_number(head.rules);
-    io::write_all(1, b" ");
-    text::print_number(head.room);
-    io::write_all(1, b" ");
-    text::print_number(head.marks);
-    io::write_all(1, b"\n");
+    text::print_number(b" ", head.sheet as u64);
+    text::print_number(b" ", head.rules as u64);
+    text::print_number(b" ", head.room as u64);
+    text::print_number(b" ", head.marks as u64);
+    text::print(b"\n");
 }
 
 fn run_inputs(head: Header, sheet: &[u8], rules: &[u8]) {
@@ -72,15 +63,15 @@ fn run_inputs(head: Header, sheet: &[u8], rules: &[u8]) {
 
 // The sheet and the rule table are read into the first bytes of what is lent.
 fn run_in(number: u64, head: Header, sheet: &mut [u8], rules: &mut [u8]) -> bool {
-    if !is_read(sheet, head.sheet) {
+    if !stdio::is_read(sheet, head.sheet) {
         return false;
     }
-    if !is_read(rules, head.rules) {
+    if !stdio::is_read(rules, head.rules) {
         return false;
     }
     print_header(number, head);
-    let s = text::least(head.sheet, sheet.len());
-    let r = text::least(head.rules, rules.len());
+    let s = stdio::least(head.sheet, sheet.len());
+    let r = stdio::least(head.rules, rules.len());
     run_inputs(head, &sheet[..s], &rules[..r]);
     true
 }
@@ -94,7 +85,7 @@ fn run_case(number: u64, head: Header) -> bool {
 // Whether there was a case.
 fn run_next(number: u64) -> bool {
     let mut bytes = [0u8; 10];
-    if !is_read(&mut bytes, 10) {
+    if !stdio::is_read(&mut bytes, 10) {
         return false;
     }
     run_case(number, header_of(&bytes))

@@ -1,8 +1,8 @@
 // A case of the press: its answer; where it is accepted, the output and the marks; and whether the bytes beyond them, or where it is refused
 // all of them, are as they were.
-use crate::text;
 use press::PressAnswer;
 use press::Pressed;
+use stdio::text;
 
 // What output and marks hold before.
 const OLD: u8 = 0xA5;
@@ -18,11 +18,12 @@ fn is_old(bytes: &[u8]) -> bool {
     true
 }
 
+// Ends the line before it.
 fn print_beyond(out: &[u8], marks: &[u8]) {
     if is_old(out) && is_old(marks) {
-        io::write_all(1, b"untouched\n");
+        text::print(b"\nuntouched\n");
     } else {
-        io::write_all(1, b"touched\n");
+        text::print(b"\ntouched\n");
     }
 }
 
@@ -33,17 +34,15 @@ fn print_pressed(p: Pressed) {
     text::print_count(b" steps ", p.steps);
     text::print_count(b" peak ", p.peak);
     text::print_count(b" marked ", p.marked);
-    io::write_all(1, b"\n");
 }
 
 fn print_memory(records: u16, lines: usize, out: &[u8], marks: &[u8]) {
-    let n = text::least(sheet::limits::RECORD_BYTES * base::wide(records), out.len());
-    let m = text::least(lines, marks.len());
-    io::write_all(1, b"out ");
+    let n = stdio::least(sheet::limits::RECORD_BYTES * base::wide(records), out.len());
+    let m = stdio::least(lines, marks.len());
+    text::print(b"\nout ");
     text::print_bytes(&out[..n]);
-    io::write_all(1, b"\nmarks ");
+    text::print(b"\nmarks ");
     text::print_bytes(&marks[..m]);
-    io::write_all(1, b"\n");
     print_beyond(&out[n..], &marks[m..]);
 }
 
@@ -54,9 +53,7 @@ fn print_outcome(answer: PressAnswer, lines: usize, out: &[u8], marks: &[u8]) {
             print_memory(p.records, lines, out, marks);
         }
         PressAnswer::Refused(why, k) => {
-            io::write_all(1, b"= ");
-            text::print_refused(why, k);
-            io::write_all(1, b"\n");
+            text::print_refused(b"= refused ", why, k);
             print_beyond(out, marks);
         }
     }
@@ -64,8 +61,8 @@ fn print_outcome(answer: PressAnswer, lines: usize, out: &[u8], marks: &[u8]) {
 
 // Of what is lent, the first bytes are the room and the marks.
 fn run_in(sheet: &[u8], rules: &[u8], room: usize, marks: usize, out: &mut [u8], core: &mut [u8]) {
-    let n = text::least(room, out.len());
-    let m = text::least(marks, core.len());
+    let n = stdio::least(room, out.len());
+    let m = stdio::least(marks, core.len());
     let answer = press::press(sheet, rules, &mut out[..n], &mut core[..m]);
     let lines = rules.len() / sheet::limits::LINE_BYTES;
     print_outcome(answer, lines, out, core);

@@ -1,7 +1,7 @@
 // A case of the replay: its answer; and for one that is shown, what stands after each record.
-use crate::text;
 use sheet::SlotNo;
 use sheet::Verdict;
+use stdio::text;
 use step::Slot;
 use step::StepAnswer;
 use step::Tally;
@@ -19,27 +19,22 @@ pub fn run(sheet: &[u8], rules: &[u8], slots: usize) {
     let answer = replay::own::replay_in(sheet, rules, slots);
     match answer {
         ReplayAnswer::Accepted(r) => print_replayed(r),
-        ReplayAnswer::Refused(why, k) => {
-            io::write_all(1, b"= ");
-            text::print_refused(why, k);
-        }
+        ReplayAnswer::Refused(why, k) => text::print_refused(b"= refused ", why, k),
     }
-    io::write_all(1, b"\n");
+    text::print(b"\n");
 }
 
 // "<node>:<positive>:<negative>", or "-" for a free slot.
 fn print_slot(s: Slot) {
     if s.used == 0 {
-        io::write_all(1, b" -");
+        text::print(b" -");
         return;
     }
     let node = s.node;
     let clause = s.clause;
     text::print_count(b" ", node.0);
-    io::write_all(1, b":");
-    text::print_set(clause.positive);
-    io::write_all(1, b":");
-    text::print_set(clause.negative);
+    text::print_set(b":", clause.positive);
+    text::print_set(b":", clause.negative);
 }
 
 fn print_slots(sheet: &[u8], rules: &[u8], slots: usize, records: usize) {
@@ -56,22 +51,22 @@ fn print_tally(t: Tally) {
     text::print_count(b" ", t.held);
     text::print_count(b" ", t.peak);
     text::print_count(b" ", t.steps);
-    io::write_all(1, b" slots");
+    text::print(b" slots");
 }
 
 // Whether the record was taken.
 fn print_answer(a: StepAnswer) -> bool {
     match a {
         StepAnswer::Taken => {
-            io::write_all(1, b"taken");
+            text::print(b"taken");
             true
         }
         StepAnswer::Refused(why, k) => {
-            text::print_refused(why, k);
+            text::print_refused(b"refused ", why, k);
             false
         }
         StepAnswer::Unfit => {
-            io::write_all(1, b"unfit");
+            text::print(b"unfit");
             false
         }
     }
@@ -84,7 +79,7 @@ fn print_record(sheet: &[u8], rules: &[u8], slots: usize, records: usize) -> boo
     let taken = print_answer(answer);
     print_tally(seen.tally);
     print_slots(sheet, rules, slots, records);
-    io::write_all(1, b"\n");
+    text::print(b"\n");
     taken
 }
 

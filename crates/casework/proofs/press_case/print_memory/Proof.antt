@@ -17,11 +17,11 @@ least-requires c κs = search needs
 least-requires-2 : tie.Need-least-requires-2
 least-requires-2 c κs = search needs
 
-slice-aggregate-write-all : tie.Need-slice-aggregate-write-all
-slice-aggregate-write-all c = search needs
+slice-aggregate-print : tie.Need-slice-aggregate-print
+slice-aggregate-print c = search needs
 
-write-all-requires : tie.Need-write-all-requires
-write-all-requires c κs = search needs
+print-requires : tie.Need-print-requires
+print-requires c κs = search needs
 
 slice-aggregate-print-bytes : tie.Need-slice-aggregate-print-bytes
 slice-aggregate-print-bytes c = sym (length-take-le _ _ (omega arith))
@@ -29,23 +29,17 @@ slice-aggregate-print-bytes c = sym (length-take-le _ _ (omega arith))
 print-bytes-requires : tie.Need-print-bytes-requires
 print-bytes-requires c κs = search needs
 
-slice-aggregate-write-all-2 : tie.Need-slice-aggregate-write-all-2
-slice-aggregate-write-all-2 c = search needs
+slice-aggregate-print-2 : tie.Need-slice-aggregate-print-2
+slice-aggregate-print-2 c = search needs
 
-write-all-requires-2 : tie.Need-write-all-requires-2
-write-all-requires-2 c κs = search needs
+print-requires-2 : tie.Need-print-requires-2
+print-requires-2 c κs = search needs
 
 slice-aggregate-print-bytes-2 : tie.Need-slice-aggregate-print-bytes-2
 slice-aggregate-print-bytes-2 c = sym (length-take-le _ _ (omega arith))
 
 print-bytes-requires-2 : tie.Need-print-bytes-requires-2
 print-bytes-requires-2 c κs = search needs
-
-slice-aggregate-write-all-3 : tie.Need-slice-aggregate-write-all-3
-slice-aggregate-write-all-3 c = search needs
-
-write-all-requires-3 : tie.Need-write-all-requires-3
-write-all-requires-3 c κs = search needs
 
 sub-print-beyond : tie.Need-sub-print-beyond
 sub-print-beyond c = search needs
@@ -79,16 +73,14 @@ print-memory-spec =
     mul-least
     least-requires
     least-requires-2
-    slice-aggregate-write-all
-    write-all-requires
+    slice-aggregate-print
+    print-requires
     slice-aggregate-print-bytes
     print-bytes-requires
-    slice-aggregate-write-all-2
-    write-all-requires-2
+    slice-aggregate-print-2
+    print-requires-2
     slice-aggregate-print-bytes-2
     print-bytes-requires-2
-    slice-aggregate-write-all-3
-    write-all-requires-3
     sub-print-beyond
     part-print-beyond-start
     part-print-beyond-end

@@ -4,8 +4,8 @@ use native.Mathlib.Omega.{arith}
 use lib.ListN.{length-replicate}
 use lib.Seq.{length-take-le}
 use borrow.Author.Needs.{needs}
-use Rattle.casework.proofs.text.print_part.Statement.{statement}
-use Rattle.casework.proofs.text.print_part.Tie as tie
+use Rattle.stdio.proofs.text.print_part.Statement.{statement}
+use Rattle.stdio.proofs.text.print_part.Tie as tie
 
 slice-aggregate-put-hex : tie.Need-slice-aggregate-put-hex
 slice-aggregate-put-hex c = search needs
@@ -19,11 +19,11 @@ mul-n c = search needs
 array-share-prefix-text : tie.Need-array-share-prefix-text
 array-share-prefix-text c = omega (arith, c .before .put-hex .kept .1 .0, length-replicate {A = ℕ} 1024 0)
 
-slice-aggregate-write-all : tie.Need-slice-aggregate-write-all
-slice-aggregate-write-all c = sym (length-take-le _ _ (omega (arith, c .before .before .put-hex .kept .1 .0, length-replicate {A = ℕ} 1024 0)))
+slice-aggregate-print : tie.Need-slice-aggregate-print
+slice-aggregate-print c = sym (length-take-le _ _ (omega (arith, c .before .before .put-hex .kept .1 .0, length-replicate {A = ℕ} 1024 0)))
 
-write-all-requires : tie.Need-write-all-requires
-write-all-requires c κs = search needs
+print-requires : tie.Need-print-requires
+print-requires c κs = search needs
 
 returns : tie.Need-returns
 returns c = search needs
@@ -36,6 +36,6 @@ print-part-spec =
     put-hex-requires
     mul-n
     array-share-prefix-text
-    slice-aggregate-write-all
-    write-all-requires
+    slice-aggregate-print
+    print-requires
     returns)

@@ -6,8 +6,8 @@ use Prim.Native.Nat.{_-_, _≤_}
 use native.Mathlib.Omega.{arith}
 use lib.ListN.{length, length-set}
 use borrow.Author.Needs.{needs}
-use Rattle.casework.proofs.text.put_hex.Statement.{statement}
-use Rattle.casework.proofs.text.put_hex.Tie as tie
+use Rattle.stdio.proofs.text.put_hex.Statement.{statement}
+use Rattle.stdio.proofs.text.put_hex.Tie as tie
 
 abbrev Inv-loop : tie.InvT-loop
 Inv-loop bytes text₀ i₀ text i = (i ≤ length bytes) × (length text ≡ length text₀)

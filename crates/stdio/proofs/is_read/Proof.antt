@@ -2,8 +2,8 @@ use mathlib.Core.Path.{sym}
 use native.Mathlib.Omega.{arith}
 use lib.Seq.{length-take-le}
 use borrow.Author.Needs.{needs}
-use Rattle.casework.proofs.is_read.Statement.{statement}
-use Rattle.casework.proofs.is_read.Tie as tie
+use Rattle.stdio.proofs.is_read.Statement.{statement}
+use Rattle.stdio.proofs.is_read.Tie as tie
 
 least-requires : tie.Need-least-requires
 least-requires c κs = search needs
