@@ -2,10 +2,9 @@
 // line." All in the folder that it runs in.
 use files::Length;
 use press::PressAnswer;
+use stdio::text;
 
-mod files;
 mod say;
-mod whole;
 
 // Both files are read before anything is judged, "`rules.bin` tried first".
 fn main() {
@@ -13,12 +12,12 @@ fn main() {
     let mut sheet = [0u8; 12288];
     let rules_read = files::read_file(b"rules.bin", &mut rules);
     let Length::Whole(rules_length) = rules_read else {
-        say::say(b"unreadable rules.bin\n");
+        text::print(b"unreadable rules.bin\n");
         return;
     };
     let sheet_read = files::read_file(b"sheet.bin", &mut sheet);
     let Length::Whole(sheet_length) = sheet_read else {
-        say::say(b"unreadable sheet.bin\n");
+        text::print(b"unreadable sheet.bin\n");
         return;
     };
     answer(&sheet, sheet_length, &rules, rules_length);
@@ -38,11 +37,11 @@ fn answer(sheet: &[u8; 12288], sheet_length: usize, rules: &[u8; 16384], rules_l
     );
     match answer {
         PressAnswer::Accepted(pressed) => {
-            let end = sheet::limits::RECORD_BYTES * base::wide(pressed.records);
+            let end = whole::record_bytes(pressed);
             if files::replace(b"pressed.bin", b"pressed.bin.part", &out[..end]) {
                 say::accepted(pressed);
             } else {
-                say::say(b"unwritable pressed.bin\n");
+                text::print(b"unwritable pressed.bin\n");
             }
         }
         PressAnswer::Refused(why, k) => say::refused(why, k),

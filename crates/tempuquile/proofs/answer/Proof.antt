@@ -1,7 +1,7 @@
 use mathlib.Core.Path.{sym}
 use native.Mathlib.Omega.{arith}
 use lib.Seq.{length-take-le}
-use Rattle.tempuquile.proofs.Starts.{fits-bytes}
+use Rattle.whole.proofs.Starts.{fits-bytes}
 use borrow.Author.Needs.{needs}
 use Rattle.tempuquile.proofs.answer.Statement.{statement}
 use Rattle.tempuquile.proofs.answer.Tie as tie
@@ -18,11 +18,8 @@ press-whole-requires c κs = search needs
 enum-known-answer : tie.Need-enum-known-answer
 enum-known-answer c = search needs
 
-wide-requires : tie.Need-wide-requires
-wide-requires c κs = search needs
-
-mul-end : tie.Need-mul-end
-mul-end c = search needs
+record-bytes-requires : tie.Need-record-bytes-requires
+record-bytes-requires c κs = search needs
 
 slice-aggregate-replace : tie.Need-slice-aggregate-replace
 slice-aggregate-replace c = search needs
@@ -31,10 +28,10 @@ slice-aggregate-replace-2 : tie.Need-slice-aggregate-replace-2
 slice-aggregate-replace-2 c = search needs
 
 array-share-prefix-out : tie.Need-array-share-prefix-out
-array-share-prefix-out c = omega (arith, c .before .before .wide .ensures, fits-bytes _ _ _ (c .before .before .before .before .answer .given .1) (c .before .before .before .before .before .before .before .before .press-whole .ensures .1))
+array-share-prefix-out c = omega (arith, c .before .before .record-bytes .ensures, fits-bytes _ _ _ (c .before .before .before .before .answer .given .1) (c .before .before .before .before .before .before .before .before .press-whole .ensures .1))
 
 slice-aggregate-replace-3 : tie.Need-slice-aggregate-replace-3
-slice-aggregate-replace-3 c = sym (length-take-le _ _ (omega (arith, c .before .before .before .wide .ensures, fits-bytes _ _ _ (c .before .before .before .before .before .answer .given .1) (c .before .before .before .before .before .before .before .before .before .press-whole .ensures .1))))
+slice-aggregate-replace-3 c = sym (length-take-le _ _ (omega (arith, c .before .before .before .record-bytes .ensures, fits-bytes _ _ _ (c .before .before .before .before .before .answer .given .1) (c .before .before .before .before .before .before .before .before .before .press-whole .ensures .1))))
 
 replace-requires : tie.Need-replace-requires
 replace-requires c κs = search needs
@@ -42,11 +39,11 @@ replace-requires c κs = search needs
 accepted-requires : tie.Need-accepted-requires
 accepted-requires c κs = search needs
 
-slice-aggregate-say : tie.Need-slice-aggregate-say
-slice-aggregate-say c = search needs
+slice-aggregate-print : tie.Need-slice-aggregate-print
+slice-aggregate-print c = search needs
 
-say-requires : tie.Need-say-requires
-say-requires c κs = search needs
+print-requires : tie.Need-print-requires
+print-requires c κs = search needs
 
 enum-known-answer-2 : tie.Need-enum-known-answer-2
 enum-known-answer-2 c = search needs
@@ -71,16 +68,15 @@ answer-spec =
     slice-aggregate-press-whole-2
     press-whole-requires
     enum-known-answer
-    wide-requires
-    mul-end
+    record-bytes-requires
     slice-aggregate-replace
     slice-aggregate-replace-2
     array-share-prefix-out
     slice-aggregate-replace-3
     replace-requires
     accepted-requires
-    slice-aggregate-say
-    say-requires
+    slice-aggregate-print
+    print-requires
     enum-known-answer-2
     refused-requires
     returns

@@ -1,7 +1,7 @@
 -- What a read brings: at most as many bytes as it has room for.
 use Prim.Native.Nat.{ℕ, _≤_}
-use Rattle.tempuquile.specs.declared.files.Brought.{Brought}
-use Rattle.tempuquile.specs.declared.files.Brought.the-variants.{Bytes, Failed}
+use Rattle.files.specs.declared.Brought.{Brought}
+use Rattle.files.specs.declared.Brought.the-variants.{Bytes, Failed}
 
 abbrev pub Brings : ℕ → Brought → Type 0
 Brings most (Bytes n) = n ≤ most

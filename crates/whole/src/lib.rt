@@ -1,13 +1,14 @@
 // "It judges a file by its whole length, however little of it fits in memory."
 ghost use mathlib.Core.Path.{_≡_};
 ghost use mathlib.Core.List.{List};
-ghost use Prim.Native.Nat.{ℕ, _≤_};
+ghost use Prim.Native.Nat.{ℕ, _*_, _≤_};
 ghost use lib.ListN.{length};
 ghost use Rattle.sheet.specs.Editions.{narrow};
 ghost use Rattle.press.specs.Said.{said};
 ghost use Rattle.pressing.specs.Press.{outcome, press};
-ghost use Rattle.tempuquile.specs.Whole.{Starts, Fits};
+ghost use Rattle.whole.specs.Whole.{Starts, Fits};
 use press::PressAnswer;
+use press::Pressed;
 use sheet::RecordNo;
 use sheet::Verdict;
 
@@ -30,4 +31,11 @@ pub fn press_whole(
         Verdict::Refused(why) => return PressAnswer::Refused(why, RecordNo(0)),
     }
     press::press(&sheet[..sheet_length], &rules[..rules_length], out, marks)
+}
+
+// How much of the output is the pressed sheet.
+pub fn record_bytes(pressed: Pressed) -> usize
+    ensures { λ r. ⌜ r ≡ 24 * pressed .records ⌝ }
+{
+    sheet::limits::RECORD_BYTES * base::wide(pressed.records)
 }

@@ -1,11 +1,11 @@
-use Rattle.tempuquile.proofs.Brought.{brings-bytes}
+use Rattle.files.proofs.Brings.{brings-bytes}
 use native.Mathlib.Omega.{arith}
 use mathlib.Core.Path.{_≡_}
 use lib.ListN.{length as long}
 use Prim.Native.Nat.{_-_}
 use borrow.Author.Needs.{needs}
-use Rattle.tempuquile.proofs.files.read_to_end.Statement.{statement}
-use Rattle.tempuquile.proofs.files.read_to_end.Tie as tie
+use Rattle.files.proofs.read_to_end.Statement.{statement}
+use Rattle.files.proofs.read_to_end.Tie as tie
 
 abbrev Inv-loop : tie.InvT-loop
 Inv-loop fd start₀ length₀ start length = long start ≡ long start₀

@@ -1,7 +1,7 @@
 // Files: one read to its end, and one put in the place of another.
 ghost use Prim.Native.Nat.{_≤_};
 ghost use lib.ListN.{length};
-ghost use Rattle.tempuquile.specs.Files.{Brings};
+ghost use Rattle.files.specs.Files.{Brings};
 
 // No file is as long.
 const LONGEST: usize = 0x8000_0000_0000_0000;

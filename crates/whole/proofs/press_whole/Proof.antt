@@ -1,10 +1,10 @@
 use mathlib.Core.Path.{sym, _∙_}
 use native.Mathlib.Omega.{arith}
 use lib.Seq.{length-take-le}
-use Rattle.tempuquile.proofs.Starts.{sheet-short, rules-short, whole-refused, whole-pressed, accepted-fits}
+use Rattle.whole.proofs.Starts.{sheet-short, rules-short, whole-refused, whole-pressed, accepted-fits}
 use borrow.Author.Needs.{needs}
-use Rattle.tempuquile.proofs.whole.press_whole.Statement.{statement}
-use Rattle.tempuquile.proofs.whole.press_whole.Tie as tie
+use Rattle.whole.proofs.press_whole.Statement.{statement}
+use Rattle.whole.proofs.press_whole.Tie as tie
 
 judge-lengths-requires : tie.Need-judge-lengths-requires
 judge-lengths-requires c κs = search needs

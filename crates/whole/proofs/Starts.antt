@@ -19,7 +19,7 @@ use Rattle.press.specs.declared.PressAnswer.{PressAnswer}
 use Rattle.press.specs.declared.PressAnswer.the-variants.{Accepted, Refused}
 use Rattle.press.specs.Said.{said}
 use Rattle.press.proofs.Ready.{press-refused}
-use Rattle.tempuquile.specs.Whole.{Starts, Fits}
+use Rattle.whole.specs.Whole.{Starts, Fits}
 
 module _ (sheet rules room marks : ℕ) (fine : checkPress narrow sheet rules room marks ≡ W.Fine) where
   sizes : Sizes narrow sheet rules room marks (sheet / 24)

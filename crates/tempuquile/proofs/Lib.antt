@@ -1,2 +1,0 @@
-pub mod Brought
-pub mod Starts
