@@ -1,2 +1,2 @@
-pub mod Filled
+pub mod Told
 pub mod Unique

@@ -7,7 +7,7 @@ use Rattle.replaying.specs.Replay.{Outcome as ReplayOutcome}
 use Rattle.step.specs.declared.Slot.{Slot}
 use Rattle.step.specs.Said.{rowOf}
 use Rattle.replay.proofs.Unique.{rowOf-injective}
-use Rattle.exports.specs.Report.{fill, pressCode, pressWords, replayCode, replayWords}
+use Rattle.report.specs.Report.{fill, pressCode, pressWords, replayCode, replayWords}
 
 -- what the contract of `tempuquile_press` says, where the press comes to o and the report was `before`
 abbrev pub Pressed : Outcome → List ℕ → ℕ → List ℕ → List ℕ → List ℕ → Type 0

@@ -1,5 +1,5 @@
 use mathlib.Core.Path.{refl}
-use Rattle.exports.proofs.Filled.{told-press}
+use Rattle.exports.proofs.Told.{told-press}
 use borrow.Author.Needs.{needs}
 use Rattle.exports.proofs.tempuquile_press.Statement.{statement}
 use Rattle.exports.proofs.tempuquile_press.Tie as tie

@@ -50,12 +50,12 @@ use Rattle.replay.proofs.replay as replay′
 use Rattle.replay.proofs.replay.Symbol as replay-def
 use Rattle.replay.proofs.replay.Symbol.{name as #replay}
 use Rattle.replay.proofs.replay.Met as replay-thm
-use Rattle.exports.specs.Report.{fill, replayCode, replayWords}
-use Rattle.exports.proofs.Filled.{told-replay}
-use Rattle.exports.proofs.tell_replay as tell′
-use Rattle.exports.proofs.tell_replay.Symbol as tell-def
-use Rattle.exports.proofs.tell_replay.Symbol.{name as #tell}
-use Rattle.exports.proofs.tell_replay.Met as tell-thm
+use Rattle.report.specs.Report.{fill, replayCode, replayWords}
+use Rattle.exports.proofs.Told.{told-replay}
+use Rattle.report.proofs.tell_replay as tell′
+use Rattle.report.proofs.tell_replay.Symbol as tell-def
+use Rattle.report.proofs.tell_replay.Symbol.{name as #tell}
+use Rattle.report.proofs.tell_replay.Met as tell-thm
 use Rattle.exports.proofs.tempuquile_replay.Key.{name as #key}
 use Rattle.exports.proofs.tempuquile_replay as f
 use Rattle.exports.proofs.tempuquile_replay.Statement as stated
@@ -223,4 +223,4 @@ tempuquile-replay-spec 𝓤 H 𝓜 𝓖 𝓡 =
     (tables 𝓤 H 𝓜 𝓡 code.env .C) (tables 𝓤 H 𝓜 𝓡 code.env .Λ) #key code.function (code.unfolded 𝓤 H 𝓜 𝓡)
     (meets 𝓤 H (𝓖 .A) (givenOf 𝓤 H 𝓜 𝓖) (𝓜 .mem) (𝓡 .run) (tablesOf 𝓤 H 𝓜 (tables 𝓤 H 𝓜 𝓡 code.env))
     (cited 𝓤 H (Replay 𝓤 H (𝓖 .A) (𝓜 .mem) (𝓡 .run)) 𝓜 𝓡 code.env #replay replay-def.routine code.calls-replay·replay (replay-thm.met 𝓤 H 𝓜 𝓖 𝓡))
-    (cited 𝓤 H (Tell 𝓤 H (𝓖 .A) (𝓜 .mem) (𝓡 .run)) 𝓜 𝓡 code.env #tell tell-def.routine code.calls-exports·tell-replay (tell-thm.met 𝓤 H 𝓜 𝓖 𝓡)))
+    (cited 𝓤 H (Tell 𝓤 H (𝓖 .A) (𝓜 .mem) (𝓡 .run)) 𝓜 𝓡 code.env #tell tell-def.routine code.calls-report·tell-replay (tell-thm.met 𝓤 H 𝓜 𝓖 𝓡)))

@@ -1,7 +1,7 @@
-use Rattle.exports.proofs.Filled.{replay-accepted, replay-refused}
+use Rattle.report.proofs.Filled.{replay-accepted, replay-refused}
 use borrow.Author.Needs.{needs}
-use Rattle.exports.proofs.tell_replay.Statement.{statement}
-use Rattle.exports.proofs.tell_replay.Tie as tie
+use Rattle.report.proofs.tell_replay.Statement.{statement}
+use Rattle.report.proofs.tell_replay.Tie as tie
 
 enum-known-answer : tie.Need-enum-known-answer
 enum-known-answer c = search needs

@@ -1,5 +1,5 @@
 -- A report is filled four words at a time.
-use mathlib.Core.Path.{_≡_, refl, sym, ap, _∙_}
+use mathlib.Core.Path.{_≡_}
 use mathlib.Core.List.{List, [], _∷_}
 use Prim.Native.Nat.{ℕ, suc, _+_}
 use native.Mathlib.Omega.{arith}
@@ -7,19 +7,15 @@ use lib.ListN.{set}
 use Rattle.sheet.specs.declared.Reason.{Reason}
 use Rattle.sheet.specs.declared.RecordNo.{RecordNo}
 use Rattle.sheet.specs.Reasons.{numberOf}
-use Rattle.pressing.specs.Press.{Answer, Outcome, outcome}
 use Rattle.press.specs.declared.Pressed.{Pressed}
 use Rattle.press.specs.declared.PressAnswer.{PressAnswer}
 use Rattle.press.specs.declared.PressAnswer.the-variants.{Accepted, Refused}
 use Rattle.press.specs.Said.{said}
-use Rattle.replaying.specs.Replay.{Outcome as ReplayOutcome, outcome as replay-outcome}
-use Rattle.step.specs.declared.Slot.{Slot}
-use Rattle.step.specs.Said.{rowOf}
 use Rattle.step.specs.declared.answer.Replayed.{Replayed}
 use Rattle.step.specs.declared.answer.ReplayAnswer.{ReplayAnswer}
 use Rattle.step.specs.declared.answer.ReplayAnswer.the-variants as A
 use Rattle.step.specs.Answers.{said as said-of-replay}
-use Rattle.exports.specs.Report.{fill, pressCode, pressWords, replayCode, replayWords}
+use Rattle.report.specs.Report.{fill, pressCode, pressWords, replayCode, replayWords}
 
 pub four-filled : (i j k l a b c d : ℕ) (r r₁ r₂ r₃ r₄ : List ℕ) → j ≡ i + 1 → k ≡ i + 2 → l ≡ i + 3
     → r₁ ≡ set r i a → r₂ ≡ set r₁ j b → r₃ ≡ set r₂ k c → r₄ ≡ set r₃ l d → r₄ ≡ fill i (a ∷ b ∷ c ∷ d ∷ []) r
@@ -43,14 +39,6 @@ pub told-refused : (a : PressAnswer) (why : Reason) (k : RecordNo) (code : ℕ) 
 unfolding fill pressCode pressWords said
 told-refused a why k code r r₁ r₂ q n e f = (rw (n, q), rw (f, e, q))
 
--- the answer of a press, told
-pub told-press : (a : Answer) (o p : Outcome) (code : ℕ) (r r′ : List ℕ) → o ≡ p → o .answer ≡ a
-    → (code ≡ pressCode a) × (r′ ≡ fill 0 (pressWords a) r)
-    → (code ≡ pressCode (p .answer)) × (o .out ≡ p .out) × (o .marks ≡ p .marks) × (r′ ≡ fill 0 (pressWords (p .answer)) r)
-told-press a o p code r r′ q s t =
-    let z : a ≡ p .answer = sym s ∙ ap (λ (x : Outcome). x .answer) q in
-    (rw (← z) (t .0), ap (λ (x : Outcome). x .out) q, ap (λ (x : Outcome). x .marks) q, rw (← z) (t .1))
-
 pub replay-accepted : (a : ReplayAnswer) (done : Replayed) (r r₁ r₂ r₃ : List ℕ) → a ≡ A.Accepted done
     → r₁ ≡ fill 0 (0 ∷ done .conclusion .positive .0 ∷ done .conclusion .negative .0 ∷ done .nodes ∷ []) r
     → r₂ ≡ set r₁ 4 (done .steps)
@@ -64,11 +52,3 @@ pub replay-refused : (a : ReplayAnswer) (why : Reason) (k : RecordNo) (code : �
     → (code ≡ replayCode (said-of-replay a)) × (r₃ ≡ fill 0 (replayWords (said-of-replay a)) r)
 unfolding fill replayCode replayWords said-of-replay
 replay-refused a why k code r r₁ r₂ r₃ q n e f g = (rw (n, q), rw (g, f, e, q))
-
--- the answer of a replay, told
-pub told-replay : (a : ReplayAnswer) (zs : List Slot) (o : ReplayOutcome) (code : ℕ) (r r′ : List ℕ) → replay-outcome (said-of-replay a) (rowOf zs) ≡ o
-    → code ≡ replayCode (said-of-replay a) → r′ ≡ fill 0 (replayWords (said-of-replay a)) r
-    → (code ≡ replayCode (o .answer)) × (rowOf zs ≡ o .slots) × (r′ ≡ fill 0 (replayWords (o .answer)) r)
-told-replay a zs o code r r′ q c w =
-    let z = ap (λ (x : ReplayOutcome). x .answer) q in
-    (c ∙ ap replayCode z, ap (λ (x : ReplayOutcome). x .slots) q, w ∙ ap (λ x. fill 0 (replayWords x) r) z)

@@ -2,8 +2,8 @@ use mathlib.Core.Path.{sym}
 use native.Mathlib.Omega.{arith}
 use lib.Seq.{set-out}
 use borrow.Author.Needs.{needs}
-use Rattle.exports.proofs.put.Statement.{statement}
-use Rattle.exports.proofs.put.Tie as tie
+use Rattle.report.proofs.put.Statement.{statement}
+use Rattle.report.proofs.put.Tie as tie
 
 mul-report : tie.Need-mul-report
 mul-report c = search needs

@@ -1,8 +1,8 @@
 use mathlib.Core.Path.{refl}
-use Rattle.exports.proofs.Filled.{four-filled}
+use Rattle.report.proofs.Filled.{four-filled}
 use borrow.Author.Needs.{needs}
-use Rattle.exports.proofs.put_four.Statement.{statement}
-use Rattle.exports.proofs.put_four.Tie as tie
+use Rattle.report.proofs.put_four.Statement.{statement}
+use Rattle.report.proofs.put_four.Tie as tie
 
 put-requires : tie.Need-put-requires
 put-requires c κs = search needs
