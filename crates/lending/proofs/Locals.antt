@@ -1,6 +1,6 @@
 -- A function's locals, as a walk has them, made of the MIR's own list: so a lemma of a walk (a turn of a loop, an arm that is shared) need not write their types.
 --     envOf ls bs          the environment of the locals ls at the blocks bs
---     localsOf ls bs vs Γ  the context of the locals in the order in which `alloc1` leaves them, the last first, each with what says that it dies, and then Γ. A local that vs has as `none` is room, and one that it has as `some v` holds v
+--     localsOf ls bs vs Γ  the context of the locals in the order in which `alloc1` leaves them, the last first, each with what says that it dies, and then Γ. A local that vs has as `none`, or does not reach, is room, and one that it has as `some v` holds v
 --     tyAt ls j        the type of local j
 --     past j ls        the locals from j on: with it, and `localsOf` of the first blocks, a context leaves one local out, as while it is lent
 --     tail             what follows the first statement of a body
@@ -49,7 +49,7 @@ envOf 𝓤 H (local τ h ∷ ls) (b ∷ bs) = (τ, b) ∷ envOf 𝓤 H ls bs
 abbrev pub localsOf : {M : Type 1} (𝓤 : URA M) → List Local → List ℕ → List (Option Val) → List (Item 𝓤) → List (Item 𝓤)
 localsOf 𝓤 [] bs vs Γ = Γ
 localsOf 𝓤 (local τ h ∷ ls) [] vs Γ = Γ
-localsOf 𝓤 (local τ h ∷ ls) (b ∷ bs) [] Γ = Γ
+localsOf 𝓤 (local τ h ∷ ls) (b ∷ bs) [] Γ = localsOf 𝓤 ls bs [] (‵ (froom τ b 0) ∷ ‵ (fdies τ b) ∷ Γ)
 localsOf 𝓤 (local τ h ∷ ls) (b ∷ bs) (none ∷ vs) Γ = localsOf 𝓤 ls bs vs (‵ (froom τ b 0) ∷ ‵ (fdies τ b) ∷ Γ)
 localsOf 𝓤 (local τ h ∷ ls) (b ∷ bs) (some v ∷ vs) Γ = localsOf 𝓤 ls bs vs (‵ (fat fullShare τ b 0 v) ∷ ‵ (fdies τ b) ∷ Γ)
 

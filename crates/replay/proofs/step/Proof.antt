@@ -19,7 +19,7 @@ use contract.Monad.{Fun}
 use contract.Running.{givenOf, tables, tablesOf}
 use types.Kit.{Given, Item, ‵, raw, _⊛_, ⋆, Sq, runs, atRet, _$_, _∵_, !, qed, by, move, keep, drop, use1, split, join, fsplit, fsplit3, fjoin, fjoin3, feqI, suffices, frame, done}
 use types.Part.{agg, whole, sub, look-in}
-use types.Run.{look, look-raw, store, store-raw, init, forget, stop, hop, fld, from, load, lit, addr, of-opd, assigns, land, returns, enter, alloc1, alloc0, params1, pass1, pass0, free1, free0, and-then, no-more}
+use types.Run.{look, look-raw, store, store-raw, init, forget, stop, hop, fld, from, load, lit, addr, of-opd, assigns, land, returns, enter, alloc1, alloc0, params1, pass1, pass0, and-then, no-more}
 use types.SemTy.{Body}
 use sound.WpLaws.{FmC, fmOf, WpFn-mono}
 use denote.RattleType.{owns}
@@ -44,9 +44,11 @@ use denote.Triple.Table.{entered, cited}
 use denote.Triple.Walked.{says, Stays, stay-slice, stay-ref, stay-dropped, walkOf, goes-slice, goes-ref, goes-dropped, Walks, ends-at, walked, walk-meets}
 use denote.Exit.{yes}
 use Rattle.lending.proofs.Calls.{call-lent}
+use Rattle.lending.proofs.Fields.{load-field}
+use Rattle.lending.proofs.Leaving.{leaves}
 use Rattle.lending.proofs.Locals.{envOf, localsOf}
 use Rattle.lending.proofs.Parts.{Lent, lent-own, lent-twice}
-use Rattle.lending.proofs.Rows.{rows, freed}
+use Rattle.lending.proofs.Rows.{rows}
 use Rattle.sheet.specs.declared.RecordNo.{RecordNo}
 use Rattle.sheet.specs.Editions.{narrow}
 use Rattle.sheet.proofs.RecordNo as R
@@ -84,7 +86,7 @@ use Rattle.step.proofs.decide.Symbol as decide-def
 use Rattle.step.proofs.decide.Symbol.{name as #decide}
 use Rattle.step.proofs.decide.Met as decide-thm
 use Rattle.row.proofs.Cells.{fv}
-use Rattle.replay.proofs.Values.{tally-val, decided-val, step-val, names-val, record-val, node-is, free-is}
+use Rattle.replay.proofs.Values.{tally-val, decided-val, step-val, names-val, node-val, record-val, node-is, free-is}
 use Rattle.row.proofs.Prims.{Find, Put, call-find, call-put}
 use Rattle.row.proofs.find.Symbol as find-def
 use Rattle.row.proofs.find.Symbol.{name as #find}
@@ -185,21 +187,20 @@ module _ {M : Type 1} (𝓤 : URA M) (H : Heap 𝓤) (A : Atoms 𝓤) (W : Given
       puts : (d : Decided) → Is D.the-row d (decided-val d ∷ []) → Says rules bytes k ys h d
           → Sq W (‵ (row T.the-row fullShare ys b o) ∷ (‵ (flft κ₂ q₂) ⊛ (‵ (flft κ₃ q₃) ⊛ ‵ ftrue)) ∷ ‵ (cellAt fullShare (Y.the-row .mir) (tally-val h ∷ []) b₁ o₁) ∷ ‵ (fobor κ₁ q₁ (Body (mem Y.the-row) b₁ o₁ γ₁)) ∷ ‵ (fobs γ₁ (Y.the-row .coded .code h)) ∷ ‵ (fauth γ₁ (Y.the-row .coded .code h))
           ∷ ‵ (fobor κ₀ q₀ (Held T.the-row (length ys) b o γ)) ∷ ‵ (fobs γ (codedHoleys T.the-row .code (heres T.the-row ys))) ∷ ‵ (fauth γ (codedHoleys T.the-row .code (heres T.the-row ys)))
-          ∷ localsOf 𝓤 (code.function .locals) bs (none ∷ some (sliceVal (b, o) (length ys)) ∷ some (vptr b₁ o₁) ∷ some (sliceVal (b₂, o₂) (length rules)) ∷ some (sliceVal (b₃, o₃) (length bytes)) ∷ some (record-val k) ∷ none ∷ none ∷ none ∷ none ∷ none ∷ some (decided-val d) ∷ none ∷ none ∷ none ∷ none ∷ none ∷ none ∷ none ∷ none ∷ none ∷ none ∷ none ∷ []) [])
+          ∷ localsOf 𝓤 (code.function .locals) bs (none ∷ some (sliceVal (b, o) (length ys)) ∷ some (vptr b₁ o₁) ∷ some (sliceVal (b₂, o₂) (length rules)) ∷ some (sliceVal (b₃, o₃) (length bytes)) ∷ some (record-val k) ∷ none ∷ none ∷ none ∷ none ∷ none ∷ some (decided-val d) ∷ []) [])
           (runs C Λ En m.t-17 (atRet En Post))
       puts d gd e =
           assigns ! (addr ! (from ! (fld ! refl (hop ! (look-in ! 51 (sub ! 0 refl (whole !))) (stop !))))) (from ! (stop !)) (init ! 11 refl (tt, tt)) $
           assigns ! (agg ! (and-then ! (load ! (from ! (stop !)) (look ! 11 refl)) (and-then ! (load ! (from ! (fld ! refl (stop !))) (look-in ! 51 (sub ! 1 refl (whole !)))) (no-more !)))) (from ! (stop !)) (init ! 9 refl (tt, (tt, (record { fits = room .0 }, tt)))) $
-          call-put ! at-mem run fm known-put ys b o (d .at) (d .slot) room (LL.owed D.the-type D′.the-laws d _ gd .1 .1 .0) (LL.owed D.the-type D′.the-laws d _ gd .1 .1 .1 .0) (λ ν δ. (and-then ! (load ! (from ! (stop !)) (look ! 10 refl)) (and-then ! (load ! (from ! (fld ! refl (stop !))) (look-in ! 32 (sub ! 2 refl (whole !)))) (and-then ! (load ! (from ! (fld ! refl (stop !))) (look-in ! 32 (sub ! 3 refl (whole !)))) (no-more !))))) (
+          call-put ! at-mem run fm known-put ys b o (d .at) (d .slot) room (LL.owed D.the-type D′.the-laws d _ gd .1 .1 .0) (LL.owed D.the-type D′.the-laws d _ gd .1 .1 .1 .0) (λ ν δ. (and-then ! (load ! (from ! (stop !)) (look ! 10 refl)) (and-then ! (load-field ! 32 refl refl refl) (and-then ! (load-field ! 32 refl refl refl) (no-more !))))) (
           land ! (from ! (stop !)) (init ! 13 refl (tt, tt)) $
-          assigns ! (of-opd ! (load ! (from ! (fld ! refl (stop !))) (look-in ! 31 (sub ! 1 refl (whole !))))) (from ! (hop ! (look ! 49 refl) (stop !))) (store-raw ! 2 refl (LL.lawful Y.the-type Y′.the-laws 𝓤 H A W .typed (d .tally) (tally-val (d .tally) ∷ []) tally-is .0)) $
-          assigns ! (of-opd ! (load ! (from ! (fld ! refl (stop !))) (look-in ! 31 (sub ! 0 refl (whole !))))) (from ! (stop !)) (init ! 53 refl (EL.lawful S.the-type S′.the-laws 𝓤 H A W tt .typed (d .answer) (step-val (d .answer) ∷ []) answer-is .0)) $
+          assigns ! (of-opd ! (load-field ! 31 {v = tally-val (d .tally)} refl refl refl)) (from ! (hop ! (look ! 49 refl) (stop !))) (store-raw ! 2 refl (LL.lawful Y.the-type Y′.the-laws 𝓤 H A W .typed (d .tally) (tally-val (d .tally) ∷ []) tally-is .0)) $
+          assigns ! (of-opd ! (load-field ! 31 {v = step-val (d .answer)} refl refl refl)) (from ! (stop !)) (init ! 53 refl (EL.lawful S.the-type S′.the-laws 𝓤 H A W tt .typed (d .answer) (step-val (d .answer) ∷ []) answer-is .0)) $
           -- both borrows are closed
           owned ! Y.the-row (Is Y.the-row) (LL.makes Y.the-type Y′.the-plain 𝓤 H A) (d .tally) (tally-val (d .tally) ∷ []) tally-is $ move ! (3 ∷ 0 ∷ 4 ∷ 5 ∷ 6 ∷ []) $ closes ! tt Y.the-row (d .tally) (tally-val (d .tally) ∷ []) b₁ o₁ $
           move ! (3 ∷ 5 ∷ 6 ∷ 7 ∷ []) $ closes-slice ! tt T.the-row ys (set ys (d .at .0) (d .slot)) (length-set ys (d .at .0) (d .slot)) b o $
           -- [obs; the borrow; the token; the tally's obs; its borrow; its token; the other two; locals from 7]
-          returns ! (look ! 51 refl) $ move ! (51 ∷ 52 ∷ 49 ∷ 50 ∷ 47 ∷ 48 ∷ 45 ∷ 46 ∷ 43 ∷ 44 ∷ 41 ∷ 42 ∷ 39 ∷ 40 ∷ 37 ∷ 38 ∷ 35 ∷ 36 ∷ 33 ∷ 34 ∷ 31 ∷ 32 ∷ 29 ∷ 30 ∷ 27 ∷ 28 ∷ 25 ∷ 26 ∷ 23 ∷ 24 ∷ 21 ∷ 22 ∷ 19 ∷ 20 ∷ 17 ∷ 18 ∷ 15 ∷ 16 ∷ 13 ∷ 14 ∷ 11 ∷ 12 ∷ 9 ∷ 10 ∷ 7 ∷ 8 ∷ []) $
-          freed ! $ freed ! $ freed ! $ freed ! $ freed ! $ freed ! $ free1 ! $ free1 ! $ free1 ! $ free1 ! $ free1 ! $ freed ! $ free1 ! $ free1 ! $ free1 ! $ free1 ! $ free1 ! $ free1 ! $ free1 ! $ free1 ! $ freed ! $ freed ! $ freed ! $ free0 ! $ by ! (exits d e answer-is))
+          returns ! (look ! 51 refl) $ leaves ! 7 (code.function .locals) bs (some _ ∷ some _ ∷ some _ ∷ some _ ∷ some _ ∷ some _ ∷ none ∷ none ∷ none ∷ none ∷ none ∷ some _ ∷ none ∷ none ∷ none ∷ none ∷ none ∷ none ∷ none ∷ none ∷ some _ ∷ some _ ∷ some _ ∷ []) refl $ by ! (exits d e answer-is))
         where
           tally-is : Is Y.the-row (d .tally) (tally-val (d .tally) ∷ [])
           tally-is = LL.owed D.the-type D′.the-laws d _ gd .1 .0
@@ -214,7 +215,7 @@ module _ {M : Type 1} (𝓤 : URA M) (H : Heap 𝓤) (A : Atoms 𝓤) (W : Given
       -- [the row 0; bytes's token 1; true 2; the tally's cell 3; its open borrow 4; obs 5; auth 6; the row's open borrow 7; obs 8; auth 9; rules's token 10; what rules owns 11; what bytes owns 12; locals from 13]: decide(*tally, rules, bytes, number, left, right, vacant, count)
       decides : Is Y.the-row h (tally-val h ∷ []) → (left right vacant : Found) → Is F.the-row left (fv left ∷ []) → Is F.the-row right (fv right ∷ []) → Is F.the-row vacant (fv vacant ∷ [])
           → ((d : Decided) → Decided-of rules bytes k ys h left right vacant d → Says rules bytes k ys h d)
-          → Sq W (Held-open (localsOf 𝓤 (code.function .locals) bs (none ∷ some (sliceVal (b, o) (length ys)) ∷ some (vptr b₁ o₁) ∷ some (sliceVal (b₂, o₂) (length rules)) ∷ some (sliceVal (b₃, o₃) (length bytes)) ∷ some (record-val k) ∷ none ∷ some (fv left) ∷ some (fv right) ∷ some (fv vacant) ∷ none ∷ none ∷ none ∷ none ∷ none ∷ none ∷ none ∷ none ∷ none ∷ none ∷ none ∷ none ∷ none ∷ []) [])) (runs C Λ En m.t-14 (atRet En Post))
+          → Sq W (Held-open (localsOf 𝓤 (code.function .locals) bs (none ∷ some (sliceVal (b, o) (length ys)) ∷ some (vptr b₁ o₁) ∷ some (sliceVal (b₂, o₂) (length rules)) ∷ some (sliceVal (b₃, o₃) (length bytes)) ∷ some (record-val k) ∷ none ∷ some (fv left) ∷ some (fv right) ∷ some (fv vacant) ∷ []) [])) (runs C Λ En m.t-14 (atRet En Post))
       decides gh left right vacant g-left g-right g-vacant so =
           assigns ! (of-opd ! (load ! (from ! (fld ! refl (stop !))) (look-in ! 55 (sub ! 1 refl (whole !))))) (from ! (stop !)) (init ! 37 refl (tt, record { fits = room .0 })) $
           assigns ! (of-opd ! (load ! (from ! (hop ! (look ! 53 refl) (stop !))) (look-raw ! 3 refl))) (from ! (stop !)) (init ! 19 refl (LL.lawful Y.the-type Y′.the-laws 𝓤 H A W .typed h _ gh .0)) $
@@ -232,16 +233,16 @@ module _ {M : Type 1} (𝓤 : URA M) (H : Heap 𝓤) (A : Atoms 𝓤) (W : Given
 
       -- the three looks
       looks : Is Y.the-row h (tally-val h ∷ []) → (ns : Names) → Is P.the-row ns (names-val ns ∷ []) → namesOf ns ≡ namesRead narrow bytes
-          → Sq W (Held-open (localsOf 𝓤 (code.function .locals) bs (none ∷ some (sliceVal (b, o) (length ys)) ∷ some (vptr b₁ o₁) ∷ some (sliceVal (b₂, o₂) (length rules)) ∷ some (sliceVal (b₃, o₃) (length bytes)) ∷ some (record-val k) ∷ some (names-val ns) ∷ none ∷ none ∷ none ∷ none ∷ none ∷ none ∷ none ∷ none ∷ none ∷ none ∷ none ∷ none ∷ none ∷ none ∷ none ∷ none ∷ []) [])) (runs C Λ En m.t-2 (atRet En Post))
+          → Sq W (Held-open (localsOf 𝓤 (code.function .locals) bs (none ∷ some (sliceVal (b, o) (length ys)) ∷ some (vptr b₁ o₁) ∷ some (sliceVal (b₂, o₂) (length rules)) ∷ some (sliceVal (b₃, o₃) (length bytes)) ∷ some (record-val k) ∷ some (names-val ns) ∷ []) [])) (runs C Λ En m.t-2 (atRet En Post))
       looks gh ns gn e =
           assigns ! (addr ! (from ! (fld ! refl (hop ! (look-in ! 55 (sub ! 0 refl (whole !))) (stop !))))) (from ! (stop !)) (init ! 33 refl (tt, tt)) $
           assigns ! (agg ! (and-then ! (load ! (from ! (stop !)) (look ! 33 refl)) (and-then ! (load ! (from ! (fld ! refl (stop !))) (look-in ! 55 (sub ! 1 refl (whole !)))) (no-more !)))) (from ! (stop !)) (init ! 31 refl (tt, (tt, (record { fits = room .0 }, tt)))) $
-          assigns ! (agg ! (and-then ! (lit ! tt) (and-then ! (load ! (from ! (fld ! refl (stop !))) (look-in ! 45 (sub ! 0 refl (whole !)))) (no-more !)))) (from ! (stop !)) (init ! 29 refl (EL.lawful K.the-type K′.the-laws 𝓤 H A W tt .typed (Node (ns .left)) _ (node-is (ns .left) (LL.owed P.the-type P′.the-laws ns _ gn .0)) .0)) $
+          assigns ! (agg ! (and-then ! (lit ! tt) (and-then ! (load-field ! 45 {v = node-val (ns .left)} refl refl refl) (no-more !)))) (from ! (stop !)) (init ! 29 refl (EL.lawful K.the-type K′.the-laws 𝓤 H A W tt .typed (Node (ns .left)) _ (node-is (ns .left) (LL.owed P.the-type P′.the-laws ns _ gn .0)) .0)) $
           call-find ! at-mem run fm known-find fullShare ys b o (Node (ns .left)) room (node-is (ns .left) (LL.owed P.the-type P′.the-laws ns _ gn .0)) (λ ν δ. (and-then ! (load ! (from ! (stop !)) (look ! 32 refl)) (and-then ! (load ! (from ! (stop !)) (look ! 30 refl)) (no-more !)))) (λ left e-left g-left.
           land ! (from ! (stop !)) (init ! 43 refl (LL.lawful F.the-type F′.the-laws 𝓤 H A W .typed left _ g-left .0)) $ forget ! 33 refl $ forget ! 31 refl $
           assigns ! (addr ! (from ! (fld ! refl (hop ! (look-in ! 55 (sub ! 0 refl (whole !))) (stop !))))) (from ! (stop !)) (init ! 27 refl (tt, tt)) $
           assigns ! (agg ! (and-then ! (load ! (from ! (stop !)) (look ! 27 refl)) (and-then ! (load ! (from ! (fld ! refl (stop !))) (look-in ! 55 (sub ! 1 refl (whole !)))) (no-more !)))) (from ! (stop !)) (init ! 25 refl (tt, (tt, (record { fits = room .0 }, tt)))) $
-          assigns ! (agg ! (and-then ! (lit ! tt) (and-then ! (load ! (from ! (fld ! refl (stop !))) (look-in ! 45 (sub ! 1 refl (whole !)))) (no-more !)))) (from ! (stop !)) (store ! 29 refl (EL.lawful K.the-type K′.the-laws 𝓤 H A W tt .typed (Node (ns .right)) _ (node-is (ns .right) (LL.owed P.the-type P′.the-laws ns _ gn .1 .0)) .0)) $
+          assigns ! (agg ! (and-then ! (lit ! tt) (and-then ! (load-field ! 45 {v = node-val (ns .right)} refl refl refl) (no-more !)))) (from ! (stop !)) (store ! 29 refl (EL.lawful K.the-type K′.the-laws 𝓤 H A W tt .typed (Node (ns .right)) _ (node-is (ns .right) (LL.owed P.the-type P′.the-laws ns _ gn .1 .0)) .0)) $
           call-find ! at-mem run fm known-find fullShare ys b o (Node (ns .right)) room (node-is (ns .right) (LL.owed P.the-type P′.the-laws ns _ gn .1 .0)) (λ ν δ. (and-then ! (load ! (from ! (stop !)) (look ! 26 refl)) (and-then ! (load ! (from ! (stop !)) (look ! 30 refl)) (no-more !)))) (λ right e-right g-right.
           land ! (from ! (stop !)) (init ! 41 refl (LL.lawful F.the-type F′.the-laws 𝓤 H A W .typed right _ g-right .0)) $ forget ! 27 refl $ forget ! 25 refl $
           assigns ! (addr ! (from ! (fld ! refl (hop ! (look-in ! 55 (sub ! 0 refl (whole !))) (stop !))))) (from ! (stop !)) (init ! 23 refl (tt, tt)) $
