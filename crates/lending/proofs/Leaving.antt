@@ -1,4 +1,5 @@
 -- A function's locals are freed at its return, all in one step.
+--     lays         the head is laid below the n entries after it, as a local's cell that was lent is laid back in its place among the locals
 --     leaves       past the first n entries stand the locals: they are freed, and the n entries are left
 -- It goes by the MIR's own list of locals, so that no step of a walk writes out the types of those that are still to be freed.
 -- Assumes `Given`.
@@ -26,6 +27,11 @@ abbrev rest : {M : Type 1} (𝓤 : URA M) → ℕ → List (Item 𝓤) → List 
 rest 𝓤 n [] = []
 rest 𝓤 zero (i ∷ Γ) = i ∷ Γ
 rest 𝓤 (suc n) (i ∷ Γ) = rest 𝓤 n Γ
+
+abbrev lower : {M : Type 1} (𝓤 : URA M) → ℕ → Item 𝓤 → List (Item 𝓤) → List (Item 𝓤)
+lower 𝓤 zero i Γ = i ∷ Γ
+lower 𝓤 (suc n) i [] = i ∷ []
+lower 𝓤 (suc n) i (j ∷ Γ) = j ∷ lower 𝓤 n i Γ
 
 module _ {M : Type 1} (𝓤 : URA M) (H : Heap 𝓤) where
   -- what is handed back of a local
@@ -69,6 +75,24 @@ module _ {M : Type 1} (𝓤 : URA M) (H : Heap 𝓤) where
       frees-locals (local τ t ∷ ls) (b ∷ bs) [] Γ P h = via 𝓤 _ (frees-locals ls bs [] (‵ (froom τ b 0) ∷ ‵ (fdies τ b) ∷ Γ) (sep 𝓤 (Freed τ b) P) (frees-one τ b (‵ (froom τ b 0)) (id⊢ 𝓤 _) Γ P h)) (beside (envOf 𝓤 H ls bs) (Freed τ b) P)
       frees-locals (local τ t ∷ ls) (b ∷ bs) (none ∷ vs) Γ P h = via 𝓤 _ (frees-locals ls bs vs (‵ (froom τ b 0) ∷ ‵ (fdies τ b) ∷ Γ) (sep 𝓤 (Freed τ b) P) (frees-one τ b (‵ (froom τ b 0)) (id⊢ 𝓤 _) Γ P h)) (beside (envOf 𝓤 H ls bs) (Freed τ b) P)
       frees-locals (local τ t ∷ ls) (b ∷ bs) (some v ∷ vs) Γ P h = via 𝓤 _ (frees-locals ls bs vs (‵ (fat fullShare τ b 0 v) ∷ ‵ (fdies τ b) ∷ Γ) (sep 𝓤 (Freed τ b) P) (frees-one τ b (‵ (fat fullShare τ b 0 v)) (W .laws .at-room τ b 0 v) Γ P h)) (beside (envOf 𝓤 H ls bs) (Freed τ b) P)
+
+lowers : {M : Type 1} (𝓤 : URA M) (H : Heap 𝓤) (A : Atoms 𝓤) (n : ℕ) (i : Item 𝓤) (Γ : List (Item 𝓤)) → ent 𝓤 (sep 𝓤 (mean 𝓤 H A i) (⋆ 𝓤 H A Γ)) (⋆ 𝓤 H A (lower 𝓤 n i Γ))
+lowers 𝓤 H A zero i Γ = push 𝓤 H A i Γ
+lowers 𝓤 H A (suc n) i [] = push 𝓤 H A i []
+lowers 𝓤 H A (suc n) i (j ∷ Γ) =
+    via 𝓤 (sep 𝓤 I (sep 𝓤 J (⋆ 𝓤 H A Γ))) (monoR 𝓤 I (pop 𝓤 H A j Γ))
+    (via 𝓤 (sep 𝓤 (sep 𝓤 I J) (⋆ 𝓤 H A Γ)) (assoc′ 𝓤 I J (⋆ 𝓤 H A Γ))
+    (via 𝓤 (sep 𝓤 (sep 𝓤 J I) (⋆ 𝓤 H A Γ)) (monoL 𝓤 (⋆ 𝓤 H A Γ) (comm∗ 𝓤 I J))
+    (via 𝓤 (sep 𝓤 J (sep 𝓤 I (⋆ 𝓤 H A Γ))) (assoc∗ 𝓤 J I (⋆ 𝓤 H A Γ)) (via 𝓤 (sep 𝓤 J (⋆ 𝓤 H A (lower 𝓤 n i Γ))) (monoR 𝓤 J (lowers 𝓤 H A n i Γ)) (push 𝓤 H A j (lower 𝓤 n i Γ))))))
+  where
+    I : SProp 𝓤
+    I = mean 𝓤 H A i
+
+    J : SProp 𝓤
+    J = mean 𝓤 H A j
+
+pub lays : {M : Type 1} {𝓤 : URA M} {H : Heap 𝓤} {A : Atoms 𝓤} {K : Type 0} {W : Given 𝓤 H A} {i : Item 𝓤} {Γ : List (Item 𝓤)} {g : Goal 𝓤 H} → K → (n : ℕ) → Step K W (lower 𝓤 n i Γ) g (i ∷ Γ) g
+lays {𝓤 = 𝓤} {H} {A} {i = i} {Γ} t n = step (λ s. record { prf = via 𝓤 (sep 𝓤 (mean 𝓤 H A i) (⋆ 𝓤 H A Γ)) (pop 𝓤 H A i Γ) (via 𝓤 (⋆ 𝓤 H A (lower 𝓤 n i Γ)) (lowers 𝓤 H A n i Γ) (s .prf)) })
 
 pub leaves : {M : Type 1} {𝓤 : URA M} {H : Heap 𝓤} {A : Atoms 𝓤} {K : Type 0} {W : Given 𝓤 H A} {Γ : List (Item 𝓤)} {g : Goal 𝓤 H} → K → (n : ℕ) (ls : List Local) (bs : List ℕ) (vs : List (Option Val)) → rest 𝓤 n Γ ≡ localsOf 𝓤 ls bs vs [] → Step K W (front 𝓤 n Γ) g Γ (frees (envOf 𝓤 H ls bs) g)
 leaves {𝓤 = 𝓤} {H} {A} {W = W} {Γ} {g} t n ls bs vs e = step (λ s. record {

@@ -2,7 +2,7 @@
 --     envOf ls bs          the environment of the locals ls at the blocks bs
 --     localsOf ls bs vs Γ  the context of the locals in the order in which `alloc1` leaves them, the last first, each with what says that it dies, and then Γ. A local that vs has as `none`, or does not reach, is room, and one that it has as `some v` holds v
 --     tyAt ls j        the type of local j
---     past j ls        the locals from j on: with it, and `localsOf` of the first blocks, a context leaves one local out, as while it is lent
+--     past j           the locals, or the blocks, from j on: with it, and `localsOf` of the first blocks, a context leaves one local out, as while it is lent
 --     tail             what follows the first statement of a body
 --     then             what a branch runs where its test holds
 -- Assumes nothing: these are definitions.
@@ -58,7 +58,7 @@ tyAt [] j = tyUnit
 tyAt (local τ h ∷ ls) zero = τ
 tyAt (local τ h ∷ ls) (suc j) = tyAt ls j
 
-abbrev pub past : ℕ → List Local → List Local
-past zero ls = ls
+abbrev pub past : {X : Type 0} → ℕ → List X → List X
+past zero xs = xs
 past (suc j) [] = []
-past (suc j) (l ∷ ls) = past j ls
+past (suc j) (x ∷ xs) = past j xs

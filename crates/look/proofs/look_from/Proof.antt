@@ -19,7 +19,7 @@ use contract.Monad.{Fun}
 use contract.Running.{givenOf, tables, tablesOf}
 use types.Kit.{Given, Item, ‵, _⊛_, ⋆, Sq, runs, atRet, _$_, _∵_, !, qed, by, move, keep, drop, use1, split, join, fsplit, fjoin, suffices, frame, done, anyQ, rewrite, fpick, fpack}
 use types.Part.{agg, whole, sub, look-in}
-use types.Run.{look, store, init, forget, stop, hop, fld, from, load, lit, addr, of-opd, assigns, land, returns, enter, alloc1, alloc0, params1, pass1, pass0, free1, free0, and-then, no-more, bin, assigns-last, first, skips, jumps, blocks, branches, exec, Below, again, loops}
+use types.Run.{look, store, init, forget, stop, hop, fld, from, load, lit, addr, of-opd, assigns, land, returns, enter, alloc1, alloc0, params1, pass1, pass0, and-then, no-more, bin, assigns-last, first, skips, jumps, blocks, branches, exec, Below, again, loops}
 use sound.WpLaws.{FmC, fmOf, WpFn-mono}
 use denote.RattleType.{owns}
 use denote.Shadow.{pureI}
@@ -53,9 +53,10 @@ use borrow.Table.Referent.{fInt}
 use borrow.Table.Elements.{at-byte}
 use borrow.Rule.Slice.PartAt.{part-count}
 use Rattle.lending.proofs.Calls.{call-plain}
+use Rattle.lending.proofs.Leaving.{lays, leaves}
 use Rattle.lending.proofs.Locals.{envOf, localsOf, tyAt, past, tail}
 use Rattle.lending.proofs.Parts.{Lent, lent-own, lent-twice, part-of, share-part}
-use Rattle.lending.proofs.Rows.{rows, freed}
+use Rattle.lending.proofs.Rows.{rows}
 use Rattle.sheet.specs.declared.RecordNo.{RecordNo}
 use Rattle.sheet.specs.declared.SlotNo.{SlotNo}
 use Rattle.sheet.specs.Editions.{narrow}
@@ -85,7 +86,7 @@ use Rattle.replay.proofs.Values.{tally-val, step-val, record-val}
 use Rattle.look.proofs.Shown.{look-val}
 use Rattle.row.proofs.Prims.{sv, nv, Slot-at, call-slot-at}
 use Rattle.replay.proofs.Answers.{Nothing, call-nothing}
-use Rattle.replay.proofs.Stepping.{Comes, Step, call-step}
+use Rattle.replay.proofs.Stepping.{Step, call-step}
 use Rattle.replay.proofs.Going.{lent, lent-is, record-inside, count-fits, at-fits, end-fits, part-fits, at-inside, at-end}
 use Rattle.look.proofs.upto as upto′
 use Rattle.look.proofs.upto.Symbol as upto-def
@@ -207,8 +208,11 @@ module _ {M : Type 1} (𝓤 : URA M) (H : Heap 𝓤) (A : Atoms 𝓤) (W : Given
     Nearer-wf = InvImage·wf (λ (i : Upto). n - i .k) (Nat·lt-wfRel .wf)
 
     module _ (𝓣 : Tables 𝓤 H) (known : Known 𝓤 H A at-mem run (𝓣 .C)) (l₀ l₁ l₂ l₃ l₄ l₅ l₆ l₇ l₈ l₉ l₁₀ l₁₁ l₁₂ l₁₃ l₁₄ l₁₅ l₁₆ l₁₇ l₁₈ l₁₉ l₂₀ l₂₁ l₂₂ l₂₃ l₂₄ l₂₅ : ℕ) where
+      abbrev bs : List ℕ
+      bs = l₀ ∷ l₁ ∷ l₂ ∷ l₃ ∷ l₄ ∷ l₅ ∷ l₆ ∷ l₇ ∷ l₈ ∷ l₉ ∷ l₁₀ ∷ l₁₁ ∷ l₁₂ ∷ l₁₃ ∷ l₁₄ ∷ l₁₅ ∷ l₁₆ ∷ l₁₇ ∷ l₁₈ ∷ l₁₉ ∷ l₂₀ ∷ l₂₁ ∷ l₂₂ ∷ l₂₃ ∷ l₂₄ ∷ l₂₅ ∷ []
+
       abbrev En : Env 𝓤 H
-      En = envOf 𝓤 H (code.function .locals) (l₀ ∷ l₁ ∷ l₂ ∷ l₃ ∷ l₄ ∷ l₅ ∷ l₆ ∷ l₇ ∷ l₈ ∷ l₉ ∷ l₁₀ ∷ l₁₁ ∷ l₁₂ ∷ l₁₃ ∷ l₁₄ ∷ l₁₅ ∷ l₁₆ ∷ l₁₇ ∷ l₁₈ ∷ l₁₉ ∷ l₂₀ ∷ l₂₁ ∷ l₂₂ ∷ l₂₃ ∷ l₂₄ ∷ l₂₅ ∷ [])
+      En = envOf 𝓤 H (code.function .locals) bs
 
       -- [the row 0; the tally, lent or not, 1; rules's token 2; sheet's 3; what rules owns 4; what sheet owns 5; the row's open borrow 6; obs 7; auth 8; locals from 9, of which _7 is the tally's]
       abbrev Beside : List (Item 𝓤) → List (Item 𝓤)
@@ -216,7 +220,7 @@ module _ {M : Type 1} (𝓤 : URA M) (H : Heap 𝓤) (A : Atoms 𝓤) (W : Given
 
       abbrev At : Upto → List (Item 𝓤)
       At i = ‵ (row T.the-row fullShare (i .zs) b o) ∷ ‵ (partAt Y.the-row fullShare (i .t) l₇ 0)
-          ∷ Beside (localsOf 𝓤 (past 8 (code.function .locals)) (l₈ ∷ l₉ ∷ l₁₀ ∷ l₁₁ ∷ l₁₂ ∷ l₁₃ ∷ l₁₄ ∷ l₁₅ ∷ l₁₆ ∷ l₁₇ ∷ l₁₈ ∷ l₁₉ ∷ l₂₀ ∷ l₂₁ ∷ l₂₂ ∷ l₂₃ ∷ l₂₄ ∷ l₂₅ ∷ []) (some (step-val (i .a)) ∷ some (vint w64 (i .k)) ∷ none ∷ none ∷ none ∷ none ∷ none ∷ none ∷ none ∷ none ∷ none ∷ none ∷ none ∷ none ∷ none ∷ none ∷ none ∷ none ∷ []) (‵ (fdies (tyAt (code.function .locals) 7) l₇) ∷ localsOf 𝓤 (code.function .locals) (l₀ ∷ l₁ ∷ l₂ ∷ l₃ ∷ l₄ ∷ l₅ ∷ l₆ ∷ []) (none ∷ some (sliceVal (b₀, o₀) (length sheet)) ∷ some (sliceVal (b₁, o₁) (length rules)) ∷ some (sliceVal (b, o) (length (i .zs))) ∷ some (vint w64 records) ∷ some (nv j) ∷ some (vint w64 n) ∷ []) []))
+          ∷ Beside (localsOf 𝓤 (past 8 (code.function .locals)) (past 8 bs) (some (step-val (i .a)) ∷ some (vint w64 (i .k)) ∷ []) (‵ (fdies (tyAt (code.function .locals) 7) l₇) ∷ localsOf 𝓤 (code.function .locals) (l₀ ∷ l₁ ∷ l₂ ∷ l₃ ∷ l₄ ∷ l₅ ∷ l₆ ∷ []) (none ∷ some (sliceVal (b₀, o₀) (length sheet)) ∷ some (sliceVal (b₁, o₁) (length rules)) ∷ some (sliceVal (b, o) (length (i .zs))) ∷ some (vint w64 records) ∷ some (nv j) ∷ some (vint w64 n) ∷ []) []))
 
       abbrev Turned : Upto → Out → SProp 𝓤
       Turned i = afterTurn 𝓤 H (Below 𝓤 H A Nearer At i) (afterBlock 𝓤 H (afterSeq 𝓤 H (Wp 𝓤 H (𝓣 .C) (𝓣 .Λ) En m.t-8 (atReturn 𝓤 H En Post)) (atReturn 𝓤 H En Post)))
@@ -234,7 +238,7 @@ module _ {M : Type 1} (𝓤 : URA M) (H : Heap 𝓤) (A : Atoms 𝓤) (W : Given
         -- after the loop: the slot is looked at
         ends : n ≤ i .k → Is Y.the-row (i .t) (tally-val (i .t) ∷ [])
             → Sq W (‵ (row T.the-row fullShare (i .zs) b o) ∷ ‵ (fat fullShare (tyAt (code.function .locals) 7) l₇ 0 (tally-val (i .t)))
-            ∷ Beside (localsOf 𝓤 (past 8 (code.function .locals)) (l₈ ∷ l₉ ∷ l₁₀ ∷ l₁₁ ∷ l₁₂ ∷ l₁₃ ∷ l₁₄ ∷ l₁₅ ∷ l₁₆ ∷ l₁₇ ∷ l₁₈ ∷ l₁₉ ∷ l₂₀ ∷ l₂₁ ∷ l₂₂ ∷ l₂₃ ∷ l₂₄ ∷ l₂₅ ∷ []) (some (step-val (i .a)) ∷ some (vint w64 (i .k)) ∷ none ∷ none ∷ none ∷ none ∷ none ∷ none ∷ none ∷ none ∷ none ∷ none ∷ none ∷ none ∷ none ∷ none ∷ none ∷ none ∷ []) (‵ (fdies (tyAt (code.function .locals) 7) l₇) ∷ localsOf 𝓤 (code.function .locals) (l₀ ∷ l₁ ∷ l₂ ∷ l₃ ∷ l₄ ∷ l₅ ∷ l₆ ∷ []) (none ∷ some (sliceVal (b₀, o₀) (length sheet)) ∷ some (sliceVal (b₁, o₁) (length rules)) ∷ some (sliceVal (b, o) (length (i .zs))) ∷ some (vint w64 records) ∷ some (nv j) ∷ some (vint w64 n) ∷ []) [])))
+            ∷ Beside (localsOf 𝓤 (past 8 (code.function .locals)) (past 8 bs) (some (step-val (i .a)) ∷ some (vint w64 (i .k)) ∷ []) (‵ (fdies (tyAt (code.function .locals) 7) l₇) ∷ localsOf 𝓤 (code.function .locals) (l₀ ∷ l₁ ∷ l₂ ∷ l₃ ∷ l₄ ∷ l₅ ∷ l₆ ∷ []) (none ∷ some (sliceVal (b₀, o₀) (length sheet)) ∷ some (sliceVal (b₁, o₁) (length rules)) ∷ some (sliceVal (b, o) (length (i .zs))) ∷ some (vint w64 records) ∷ some (nv j) ∷ some (vint w64 n) ∷ []) [])))
             (runs (𝓣 .C) (𝓣 .Λ) En m.t-8 (atRet En Post))
         ends over gt =
             assigns ! (of-opd ! (load ! (from ! (stop !)) (look ! 1 refl))) (from ! (stop !)) (init ! 33 refl (LL.lawful Y.the-type Y′.the-laws 𝓤 H A W .typed (i .t) _ gt .0)) $
@@ -246,8 +250,7 @@ module _ {M : Type 1} (𝓤 : URA M) (H : Heap 𝓤) (A : Atoms 𝓤) (W : Given
             move ! (0 ∷ 6 ∷ 7 ∷ 8 ∷ []) $ closes-slice ! tt T.the-row ys (i .zs) (i .same) b o $
             -- [obs 0; the borrow 1; the token 2; the tally's cell 3; rules's token 4; sheet's 5; what rules owns; what sheet owns; locals]
             move ! (3 ∷ []) $ move ! (6 ∷ []) $ drop ! $ move ! (6 ∷ []) $ drop ! $ returns ! (look ! 55 refl) $
-            move ! (55 ∷ 56 ∷ 53 ∷ 54 ∷ 51 ∷ 52 ∷ 49 ∷ 50 ∷ 47 ∷ 48 ∷ 45 ∷ 46 ∷ 43 ∷ 44 ∷ 0 ∷ 42 ∷ 40 ∷ 41 ∷ 38 ∷ 39 ∷ 36 ∷ 37 ∷ 34 ∷ 35 ∷ 32 ∷ 33 ∷ 30 ∷ 31 ∷ 28 ∷ 29 ∷ 26 ∷ 27 ∷ 24 ∷ 25 ∷ 22 ∷ 23 ∷ 20 ∷ 21 ∷ 18 ∷ 19 ∷ 16 ∷ 17 ∷ 14 ∷ 15 ∷ 12 ∷ 13 ∷ 10 ∷ 11 ∷ 8 ∷ 9 ∷ 6 ∷ 7 ∷ []) $
-            freed ! $ freed ! $ freed ! $ freed ! $ freed ! $ freed ! $ freed ! $ freed ! $ freed ! $ freed ! $ free1 ! $ free1 ! $ free1 ! $ freed ! $ free1 ! $ free1 ! $ free1 ! $ free1 ! $ free1 ! $ free1 ! $ free1 ! $ free1 ! $ free1 ! $ freed ! $ freed ! $ freed ! $ free0 ! $ by ! (exits (i .zs) (look-of (i .a) (i .t) s) (i .same) (sees rules sheet s₀ (i .k) (min records (length sheet / 24)) (j .0) (i .a) (i .t) (i .zs) s (i .stands) (le-antisymm (i .few) over ∙ en) e-s) (look-is s gs)))
+            lays ! 41 $ leaves ! 5 (code.function .locals) bs (some _ ∷ some _ ∷ some _ ∷ some _ ∷ some _ ∷ some _ ∷ some _ ∷ some _ ∷ some _ ∷ some _ ∷ none ∷ none ∷ none ∷ some _ ∷ none ∷ none ∷ none ∷ none ∷ none ∷ none ∷ none ∷ none ∷ none ∷ some _ ∷ some _ ∷ some _ ∷ []) refl $ by ! (exits (i .zs) (look-of (i .a) (i .t) s) (i .same) (sees rules sheet s₀ (i .k) (min records (length sheet / 24)) (j .0) (i .a) (i .t) (i .zs) s (i .stands) (le-antisymm (i .few) over ∙ en) e-s) (look-is s gs)))
           where
             look-is : (s : Slot) → Is T.the-row s (sv s ∷ []) → Is L.the-row (look-of (i .a) (i .t) s) (look-val (look-of (i .a) (i .t) s) ∷ [])
             look-is s gs = LL.owes L.the-type L′.the-laws (look-of (i .a) (i .t) s) (i .ga, (gt, (gs, tt)))

@@ -19,7 +19,7 @@ use contract.Monad.{Fun}
 use contract.Running.{givenOf, tables, tablesOf}
 use types.Kit.{Given, Item, ‵, _⊛_, ⋆, Sq, runs, atRet, _$_, _∵_, !, qed, by, move, keep, split, join, fsplit, fjoin, suffices, frame, done, anyQ, rewrite}
 use types.Part.{agg, whole, sub, look-in}
-use types.Run.{look, store, init, forget, stop, hop, fld, from, load, lit, addr, of-opd, assigns, land, returns, enter, alloc1, alloc0, params1, pass1, pass0, free1, free0, and-then, no-more, first, skips, branches, returns-within, exec}
+use types.Run.{look, store, init, forget, stop, hop, fld, from, load, lit, addr, of-opd, assigns, land, returns, enter, alloc1, alloc0, params1, pass1, pass0, and-then, no-more, first, skips, branches, returns-within, exec}
 use sound.WpLaws.{FmC, fmOf, WpFn-mono}
 use denote.RattleType.{owns}
 use denote.Shadow.{pureI}
@@ -43,9 +43,10 @@ use mathlib.Core.Bool.{true, false}
 use lib.Dec.{lit<}
 use lib.Ieee.Bits.{is-true, is-false}
 use Rattle.lending.proofs.Calls.{call-plain}
+use Rattle.lending.proofs.Leaving.{leaves}
 use Rattle.lending.proofs.Locals.{envOf, localsOf, tyAt, then}
 use Rattle.lending.proofs.Parts.{Lent, lent-own}
-use Rattle.lending.proofs.Rows.{rows, freed}
+use Rattle.lending.proofs.Rows.{rows}
 use Rattle.sheet.specs.declared.Verdict.{Verdict}
 use Rattle.sheet.specs.Checks.{checkLengths}
 use Rattle.sheet.specs.Editions.{narrow, replayRecords}
@@ -150,17 +151,16 @@ module _ {M : Type 1} (𝓤 : URA M) (H : Heap 𝓤) (A : Atoms 𝓤) (W : Given
 
       -- the lengths don't pass
       refuses : (v : Verdict) → v ≡ verdict → passes v ≡ false → Is J.the-row v (verdict-val v ∷ [])
-          → Sq W (Opened (localsOf 𝓤 (code.function .locals) bs (none ∷ some (sliceVal (b₀, o₀) (length sheet)) ∷ some (sliceVal (b₁, o₁) (length rules)) ∷ some (sliceVal (b, o) (length ys)) ∷ some (verdict-val v) ∷ none ∷ none ∷ none ∷ none ∷ none ∷ none ∷ none ∷ none ∷ none ∷ none ∷ none ∷ []) [])) (runs C Λ En m.t-6 (atRet En Post))
+          → Sq W (Opened (localsOf 𝓤 (code.function .locals) bs (none ∷ some (sliceVal (b₀, o₀) (length sheet)) ∷ some (sliceVal (b₁, o₁) (length rules)) ∷ some (sliceVal (b, o) (length ys)) ∷ some (verdict-val v) ∷ []) [])) (runs C Λ En m.t-6 (atRet En Post))
       refuses v e no-pass gv =
           call-refused ! at-mem run fm (known .refused) v gv (and-then ! (load ! (from ! (stop !)) (look ! 31 refl)) (no-more !)) (λ r e-r gr.
           land ! (from ! (stop !)) (init ! 38 refl (EL.lawful B.the-type B′.the-laws 𝓤 H A W tt .typed r _ gr .0)) $
           move ! (0 ∷ 5 ∷ 6 ∷ 7 ∷ []) $ closes-slice ! tt T.the-row ys ys refl b o $
           -- [obs; the borrow; the token; sheet's token 3; rules's 4; what they own; locals from 7]
-          returns ! (look ! 37 refl) $ move ! (37 ∷ 38 ∷ 35 ∷ 36 ∷ 33 ∷ 34 ∷ 31 ∷ 32 ∷ 29 ∷ 30 ∷ 27 ∷ 28 ∷ 25 ∷ 26 ∷ 23 ∷ 24 ∷ 21 ∷ 22 ∷ 19 ∷ 20 ∷ 17 ∷ 18 ∷ 15 ∷ 16 ∷ 13 ∷ 14 ∷ 11 ∷ 12 ∷ 9 ∷ 10 ∷ 7 ∷ 8 ∷ []) $ freed ! $ freed ! $ freed ! $ freed ! $ freed ! $ free1 ! $ free1 ! $ free1 ! $ free1 ! $ free1 ! $ free1 ! $ free1 ! $ free1 ! $ free1 ! $ free1 ! $ free1 ! $ free0 ! $
-          keep ! (0 ∷ 1 ∷ 2 ∷ 4 ∷ 3 ∷ []) $ by ! (exits ys r refl (comes-refused sheet rules (rowOf ys) v e no-pass (said r) e-r) gr))
+          returns ! (look ! 37 refl) $ leaves ! 7 (code.function .locals) bs (some _ ∷ some _ ∷ some _ ∷ some _ ∷ some _ ∷ []) refl $ keep ! (0 ∷ 1 ∷ 2 ∷ 4 ∷ 3 ∷ []) $ by ! (exits ys r refl (comes-refused sheet rules (rowOf ys) v e no-pass (said r) e-r) gr))
 
       -- the lengths pass
-      goes : passes verdict ≡ true → Sq W (Opened (localsOf 𝓤 (code.function .locals) bs (none ∷ some (sliceVal (b₀, o₀) (length sheet)) ∷ some (sliceVal (b₁, o₁) (length rules)) ∷ some (sliceVal (b, o) (length ys)) ∷ none ∷ none ∷ none ∷ none ∷ none ∷ none ∷ none ∷ none ∷ none ∷ none ∷ none ∷ none ∷ []) [])) (runs C Λ En (then m.s-5) (anyQ (afterSeq 𝓤 H (Wp 𝓤 H C Λ En m.t-6 (atReturn 𝓤 H En Post)) (atReturn 𝓤 H En Post))))
+      goes : passes verdict ≡ true → Sq W (Opened (localsOf 𝓤 (code.function .locals) bs (none ∷ some (sliceVal (b₀, o₀) (length sheet)) ∷ some (sliceVal (b₁, o₁) (length rules)) ∷ some (sliceVal (b, o) (length ys)) ∷ []) [])) (runs C Λ En (then m.s-5) (anyQ (afterSeq 𝓤 H (Wp 𝓤 H C Λ En m.t-6 (atReturn 𝓤 H En Post)) (atReturn 𝓤 H En Post))))
       goes pass =
           assigns ! (addr ! (from ! (fld ! refl (hop ! (look-in ! 32 (sub ! 0 refl (whole !))) (stop !))))) (from ! (stop !)) (init ! 18 refl (tt, tt)) $
           assigns ! (agg ! (and-then ! (load ! (from ! (stop !)) (look ! 18 refl)) (and-then ! (load ! (from ! (fld ! refl (stop !))) (look-in ! 32 (sub ! 1 refl (whole !)))) (no-more !)))) (from ! (stop !)) (init ! 16 refl (tt, (tt, (record { fits = room .0 }, tt)))) $
@@ -180,8 +180,7 @@ module _ {M : Type 1} (𝓤 : URA M) (H : Heap 𝓤) (A : Atoms 𝓤) (W : Given
           assigns ! (of-opd ! (load ! (from ! (stop !)) (look ! 26 refl))) (from ! (stop !)) (init ! 36 refl (EL.lawful B.the-type B′.the-laws 𝓤 H A W tt .typed r _ gr .0)) $
           move ! (0 ∷ 3 ∷ 4 ∷ 5 ∷ []) $ closes-slice ! tt T.the-row ys zs₃ (cleared-length zs₂ zs₃ e₃ ∙ e₂ .1 ∙ cleared-length ys zs₁ e₁) b o $
           -- [obs; the borrow; the token; sheet's token 3; rules's 4; locals from 5]
-          returns-within ! Post refl (look ! 35 refl) $ move ! (35 ∷ 36 ∷ 33 ∷ 34 ∷ 31 ∷ 32 ∷ 29 ∷ 30 ∷ 27 ∷ 28 ∷ 25 ∷ 26 ∷ 23 ∷ 24 ∷ 21 ∷ 22 ∷ 19 ∷ 20 ∷ 17 ∷ 18 ∷ 15 ∷ 16 ∷ 13 ∷ 14 ∷ 11 ∷ 12 ∷ 9 ∷ 10 ∷ 7 ∷ 8 ∷ 5 ∷ 6 ∷ []) $ freed ! $ freed ! $ freed ! $ freed ! $ free1 ! $ freed ! $ free1 ! $ free1 ! $ free1 ! $ freed ! $ free1 ! $ free1 ! $ free1 ! $ free1 ! $ freed ! $ freed ! $ free0 ! $
-          move ! (0 ∷ 1 ∷ 2 ∷ 4 ∷ 3 ∷ []) $ by ! (exits zs₃ r (cleared-length zs₂ zs₃ e₃ ∙ e₂ .1 ∙ cleared-length ys zs₁ e₁) (comes-fine sheet rules ys zs₁ zs₂ zs₃ (said r) pass e₁ e₂ e₃) gr))))
+          returns-within ! Post refl (look ! 35 refl) $ leaves ! 5 (code.function .locals) bs (some _ ∷ some _ ∷ some _ ∷ some _ ∷ none ∷ some _ ∷ none ∷ none ∷ none ∷ some _ ∷ none ∷ none ∷ none ∷ none ∷ some _ ∷ some _ ∷ []) refl $ move ! (0 ∷ 1 ∷ 2 ∷ 4 ∷ 3 ∷ []) $ by ! (exits zs₃ r (cleared-length zs₂ zs₃ e₃ ∙ e₂ .1 ∙ cleared-length ys zs₁ e₁) (comes-fine sheet rules ys zs₁ zs₂ zs₃ (said r) pass e₁ e₂ e₃) gr))))
         where
           room-of : (zs : List Slot) → length zs ≡ length ys → Room T.the-row (length zs)
           room-of zs same = subst (Room T.the-row) (sym same) room

@@ -19,7 +19,7 @@ use contract.Monad.{Fun}
 use contract.Running.{givenOf, tables, tablesOf}
 use types.Kit.{Given, Item, ‵, _⊛_, ⋆, Sq, runs, atRet, _$_, _∵_, !, qed, by, move, keep, drop, use1, split, join, fsplit, fjoin, suffices, frame, done, prop, frees, anyQ, rewrite, fpick, fpack}
 use types.Part.{agg, whole, sub, look-in}
-use types.Run.{look, store, init, forget, stop, hop, fld, from, load, lit, addr, of-opd, assigns, land, returns, enter, alloc1, alloc0, params1, pass1, pass0, free1, free0, and-then, no-more, bin, assigns-last, first, skips, jumps, blocks, branches, returns-within, exec, Below, again, loops}
+use types.Run.{look, store, init, forget, stop, hop, fld, from, load, lit, addr, of-opd, assigns, land, returns, enter, alloc1, alloc0, params1, pass1, pass0, and-then, no-more, bin, assigns-last, first, skips, jumps, blocks, branches, returns-within, exec, Below, again, loops}
 use sound.WpLaws.{FmC, fmOf, WpFn-mono}
 use denote.RattleType.{owns}
 use denote.Shadow.{pureI}
@@ -41,7 +41,6 @@ use denote.Triple.Spec.{Meets, tripleOf}
 use denote.Triple.Table.{entered, cited}
 use denote.Triple.Walked.{says, Stays, stay-slice, stay-dropped, walkOf, goes-slice, goes-dropped, Walks, ends-at, walked, walk-meets, needs}
 use denote.Exit.{yes}
-use mathlib.Core.Bool.{not}
 use native.Mathlib.Omega.{arith}
 use native.Mathlib.Nat.{le-antisymm}
 use native.Mathlib.Numerals.{add-one-le, add-one-dec}
@@ -53,9 +52,10 @@ use borrow.Table.Copies.{halved, cRf}
 use borrow.Table.Referent.{fInt}
 use borrow.Table.Elements.{at-byte}
 use borrow.Rule.Slice.PartAt.{part-count}
+use Rattle.lending.proofs.Leaving.{lays, leaves}
 use Rattle.lending.proofs.Locals.{envOf, localsOf, tyAt, past, tail}
 use Rattle.lending.proofs.Parts.{Lent, lent-own, lent-twice, part-of, share-part}
-use Rattle.lending.proofs.Rows.{rows, freed}
+use Rattle.lending.proofs.Rows.{rows}
 use Rattle.sheet.specs.declared.RecordNo.{RecordNo}
 use Rattle.sheet.specs.declared.Verdict.the-variants.{Fine}
 use Rattle.sheet.specs.Checks.{checkLengths}
@@ -193,8 +193,11 @@ module _ {M : Type 1} (𝓤 : URA M) (H : Heap 𝓤) (A : Atoms 𝓤) (W : Given
   lent-record k γ′ = part-of lent-sheet (24 * k) (24 * k + 24) (24 * k + o₀) γ′
 
   module _ (𝓣 : Tables 𝓤 H) (known : Known 𝓤 H A at-mem run (𝓣 .C)) (l₀ l₁ l₂ l₃ l₄ l₅ l₆ l₇ l₈ l₉ l₁₀ l₁₁ l₁₂ l₁₃ l₁₄ l₁₅ l₁₆ l₁₇ l₁₈ l₁₉ l₂₀ l₂₁ l₂₂ l₂₃ l₂₄ l₂₅ l₂₆ : ℕ) where
+    abbrev bs : List ℕ
+    bs = l₀ ∷ l₁ ∷ l₂ ∷ l₃ ∷ l₄ ∷ l₅ ∷ l₆ ∷ l₇ ∷ l₈ ∷ l₉ ∷ l₁₀ ∷ l₁₁ ∷ l₁₂ ∷ l₁₃ ∷ l₁₄ ∷ l₁₅ ∷ l₁₆ ∷ l₁₇ ∷ l₁₈ ∷ l₁₉ ∷ l₂₀ ∷ l₂₁ ∷ l₂₂ ∷ l₂₃ ∷ l₂₄ ∷ l₂₅ ∷ l₂₆ ∷ []
+
     abbrev En : Env 𝓤 H
-    En = envOf 𝓤 H (code.function .locals) (l₀ ∷ l₁ ∷ l₂ ∷ l₃ ∷ l₄ ∷ l₅ ∷ l₆ ∷ l₇ ∷ l₈ ∷ l₉ ∷ l₁₀ ∷ l₁₁ ∷ l₁₂ ∷ l₁₃ ∷ l₁₄ ∷ l₁₅ ∷ l₁₆ ∷ l₁₇ ∷ l₁₈ ∷ l₁₉ ∷ l₂₀ ∷ l₂₁ ∷ l₂₂ ∷ l₂₃ ∷ l₂₄ ∷ l₂₅ ∷ l₂₆ ∷ [])
+    En = envOf 𝓤 H (code.function .locals) bs
 
     -- [the row 0; the tally, lent or not, 1; rules's token 2; sheet's 3; what rules owns 4; what sheet owns 5; the row's open borrow 6; obs 7; auth 8; locals from 9, of which _5 is the tally's]
     abbrev Beside : List (Item 𝓤) → List (Item 𝓤)
@@ -202,21 +205,20 @@ module _ {M : Type 1} (𝓤 : URA M) (H : Heap 𝓤) (A : Atoms 𝓤) (W : Given
 
     abbrev At : Upto → List (Item 𝓤)
     At i = ‵ (row T.the-row fullShare (i .zs) b o) ∷ ‵ (partAt Y.the-row fullShare (i .t) l₅ 0)
-        ∷ Beside (localsOf 𝓤 (past 6 (code.function .locals)) (l₆ ∷ l₇ ∷ l₈ ∷ l₉ ∷ l₁₀ ∷ l₁₁ ∷ l₁₂ ∷ l₁₃ ∷ l₁₄ ∷ l₁₅ ∷ l₁₆ ∷ l₁₇ ∷ l₁₈ ∷ l₁₉ ∷ l₂₀ ∷ l₂₁ ∷ l₂₂ ∷ l₂₃ ∷ l₂₄ ∷ l₂₅ ∷ l₂₆ ∷ []) (some (vint w64 (i .k)) ∷ none ∷ none ∷ none ∷ none ∷ none ∷ none ∷ none ∷ none ∷ none ∷ none ∷ none ∷ none ∷ none ∷ none ∷ none ∷ none ∷ none ∷ none ∷ none ∷ none ∷ []) (‵ (fdies (tyAt (code.function .locals) 5) l₅) ∷ localsOf 𝓤 (code.function .locals) (l₀ ∷ l₁ ∷ l₂ ∷ l₃ ∷ l₄ ∷ []) (none ∷ some (sliceVal (b₀, o₀) (length sheet)) ∷ some (sliceVal (b₁, o₁) (length rules)) ∷ some (sliceVal (b, o) (length (i .zs))) ∷ some (vint w64 (length sheet / 24)) ∷ []) []))
+        ∷ Beside (localsOf 𝓤 (past 6 (code.function .locals)) (past 6 bs) (some (vint w64 (i .k)) ∷ []) (‵ (fdies (tyAt (code.function .locals) 5) l₅) ∷ localsOf 𝓤 (code.function .locals) (l₀ ∷ l₁ ∷ l₂ ∷ l₃ ∷ l₄ ∷ []) (none ∷ some (sliceVal (b₀, o₀) (length sheet)) ∷ some (sliceVal (b₁, o₁) (length rules)) ∷ some (sliceVal (b, o) (length (i .zs))) ∷ some (vint w64 (length sheet / 24)) ∷ []) []))
 
     -- the end: the locals are freed
     lets-go : (zs : List Slot) (t : Tally) (c k : ℕ) (r : ReplayAnswer) → length zs ≡ length ys → said r ≡ runs-to narrow rules sheet n 0 s₀ → Is B.the-row r (answer-val r ∷ [])
         → Sq W (‵ (fat fullShare (tyAt (code.function .locals) 5) l₅ 0 (tally-val t)) ∷ ‵ (fobs γ (codedHoleys T.the-row .code (heres T.the-row zs))) ∷ ‵ (fbor κ₂ (Held T.the-row (length zs) b o γ)) ∷ ‵ (flft κ₂ q₂) ∷ ‵ (flft κ₁ q₁) ∷ ‵ (flft κ₀ q₀)
-        ∷ localsOf 𝓤 (past 6 (code.function .locals)) (l₆ ∷ l₇ ∷ l₈ ∷ l₉ ∷ l₁₀ ∷ l₁₁ ∷ l₁₂ ∷ l₁₃ ∷ l₁₄ ∷ l₁₅ ∷ l₁₆ ∷ l₁₇ ∷ l₁₈ ∷ l₁₉ ∷ l₂₀ ∷ l₂₁ ∷ l₂₂ ∷ l₂₃ ∷ l₂₄ ∷ l₂₅ ∷ l₂₆ ∷ []) (some (vint w64 k) ∷ none ∷ none ∷ none ∷ none ∷ none ∷ none ∷ none ∷ none ∷ none ∷ none ∷ none ∷ none ∷ none ∷ none ∷ none ∷ none ∷ none ∷ none ∷ none ∷ none ∷ []) (‵ (fdies (tyAt (code.function .locals) 5) l₅) ∷ localsOf 𝓤 (code.function .locals) (l₀ ∷ l₁ ∷ l₂ ∷ l₃ ∷ l₄ ∷ []) (some (answer-val r) ∷ some (sliceVal (b₀, o₀) (length sheet)) ∷ some (sliceVal (b₁, o₁) (length rules)) ∷ some (sliceVal (b, o) c) ∷ some (vint w64 (length sheet / 24)) ∷ []) []))
+        ∷ localsOf 𝓤 (past 6 (code.function .locals)) (past 6 bs) (some (vint w64 k) ∷ []) (‵ (fdies (tyAt (code.function .locals) 5) l₅) ∷ localsOf 𝓤 (code.function .locals) (l₀ ∷ l₁ ∷ l₂ ∷ l₃ ∷ l₄ ∷ []) (some (answer-val r) ∷ some (sliceVal (b₀, o₀) (length sheet)) ∷ some (sliceVal (b₁, o₁) (length rules)) ∷ some (sliceVal (b, o) c) ∷ some (vint w64 (length sheet / 24)) ∷ []) []))
         (frees En (prop (Post (answer-val r))))
     lets-go zs t c k r same e gr =
-        move ! (57 ∷ 58 ∷ 55 ∷ 56 ∷ 53 ∷ 54 ∷ 51 ∷ 52 ∷ 49 ∷ 50 ∷ 0 ∷ 48 ∷ 46 ∷ 47 ∷ 44 ∷ 45 ∷ 42 ∷ 43 ∷ 40 ∷ 41 ∷ 38 ∷ 39 ∷ 36 ∷ 37 ∷ 34 ∷ 35 ∷ 32 ∷ 33 ∷ 30 ∷ 31 ∷ 28 ∷ 29 ∷ 26 ∷ 27 ∷ 24 ∷ 25 ∷ 22 ∷ 23 ∷ 20 ∷ 21 ∷ 18 ∷ 19 ∷ 16 ∷ 17 ∷ 14 ∷ 15 ∷ 12 ∷ 13 ∷ 10 ∷ 11 ∷ 8 ∷ 9 ∷ 6 ∷ 7 ∷ []) $
-        freed ! $ freed ! $ freed ! $ freed ! $ freed ! $ freed ! $ freed ! $ free1 ! $ free1 ! $ free1 ! $ free1 ! $ free1 ! $ free1 ! $ free1 ! $ free1 ! $ free1 ! $ free1 ! $ free1 ! $ free1 ! $ free1 ! $ free1 ! $ free1 ! $ free1 ! $ free1 ! $ free1 ! $ free1 ! $ free1 ! $ free0 ! $ by ! (exits zs r same e gr)
+        lays ! 47 $ leaves ! 5 (code.function .locals) bs (some _ ∷ some _ ∷ some _ ∷ some _ ∷ some _ ∷ some _ ∷ some _ ∷ []) refl $ by ! (exits zs r same e gr)
 
     -- after the loop: the last node is looked for
     ends : (i : Upto) → n ≤ i .k → Is Y.the-row (i .t) (tally-val (i .t) ∷ [])
         → Sq W (‵ (row T.the-row fullShare (i .zs) b o) ∷ ‵ (fat fullShare (tyAt (code.function .locals) 5) l₅ 0 (tally-val (i .t)))
-        ∷ Beside (localsOf 𝓤 (past 6 (code.function .locals)) (l₆ ∷ l₇ ∷ l₈ ∷ l₉ ∷ l₁₀ ∷ l₁₁ ∷ l₁₂ ∷ l₁₃ ∷ l₁₄ ∷ l₁₅ ∷ l₁₆ ∷ l₁₇ ∷ l₁₈ ∷ l₁₉ ∷ l₂₀ ∷ l₂₁ ∷ l₂₂ ∷ l₂₃ ∷ l₂₄ ∷ l₂₅ ∷ l₂₆ ∷ []) (some (vint w64 (i .k)) ∷ none ∷ none ∷ none ∷ none ∷ none ∷ none ∷ none ∷ none ∷ none ∷ none ∷ none ∷ none ∷ none ∷ none ∷ none ∷ none ∷ none ∷ none ∷ none ∷ none ∷ []) (‵ (fdies (tyAt (code.function .locals) 5) l₅) ∷ localsOf 𝓤 (code.function .locals) (l₀ ∷ l₁ ∷ l₂ ∷ l₃ ∷ l₄ ∷ []) (none ∷ some (sliceVal (b₀, o₀) (length sheet)) ∷ some (sliceVal (b₁, o₁) (length rules)) ∷ some (sliceVal (b, o) (length (i .zs))) ∷ some (vint w64 (length sheet / 24)) ∷ []) [])))
+        ∷ Beside (localsOf 𝓤 (past 6 (code.function .locals)) (past 6 bs) (some (vint w64 (i .k)) ∷ []) (‵ (fdies (tyAt (code.function .locals) 5) l₅) ∷ localsOf 𝓤 (code.function .locals) (l₀ ∷ l₁ ∷ l₂ ∷ l₃ ∷ l₄ ∷ []) (none ∷ some (sliceVal (b₀, o₀) (length sheet)) ∷ some (sliceVal (b₁, o₁) (length rules)) ∷ some (sliceVal (b, o) (length (i .zs))) ∷ some (vint w64 (length sheet / 24)) ∷ []) [])))
         (runs (𝓣 .C) (𝓣 .Λ) En m.t-7 (atRet En Post))
     unfolding soughtIn
     ends i over gt =
@@ -262,7 +264,7 @@ module _ {M : Type 1} (𝓤 : URA M) (H : Heap 𝓤) (A : Atoms 𝓤) (W : Given
 
       -- what the step has answered
       answers : (less : i .k < n) (r : StepAnswer) (zs : List Slot) (t : Tally) → length zs ≡ length (i .zs) → Comes rules (lent sheet (i .k)) (number (i .k)) (i .zs) (i .t) r zs t → Is S.the-row r (step-val r ∷ [])
-          → Sq W (‵ (row T.the-row fullShare zs b o) ∷ ‵ (partAt Y.the-row fullShare t l₅ 0) ∷ Beside (localsOf 𝓤 (past 6 (code.function .locals)) (l₆ ∷ l₇ ∷ l₈ ∷ l₉ ∷ l₁₀ ∷ l₁₁ ∷ l₁₂ ∷ l₁₃ ∷ l₁₄ ∷ l₁₅ ∷ l₁₆ ∷ l₁₇ ∷ l₁₈ ∷ l₁₉ ∷ l₂₀ ∷ l₂₁ ∷ l₂₂ ∷ l₂₃ ∷ l₂₄ ∷ l₂₅ ∷ l₂₆ ∷ []) (some (vint w64 (i .k)) ∷ none ∷ none ∷ some (step-val r) ∷ none ∷ none ∷ none ∷ none ∷ none ∷ none ∷ none ∷ none ∷ none ∷ none ∷ none ∷ none ∷ none ∷ none ∷ none ∷ none ∷ none ∷ []) (‵ (fdies (tyAt (code.function .locals) 5) l₅) ∷ localsOf 𝓤 (code.function .locals) (l₀ ∷ l₁ ∷ l₂ ∷ l₃ ∷ l₄ ∷ []) (none ∷ some (sliceVal (b₀, o₀) (length sheet)) ∷ some (sliceVal (b₁, o₁) (length rules)) ∷ some (sliceVal (b, o) (length (i .zs))) ∷ some (vint w64 (length sheet / 24)) ∷ []) [])))
+          → Sq W (‵ (row T.the-row fullShare zs b o) ∷ ‵ (partAt Y.the-row fullShare t l₅ 0) ∷ Beside (localsOf 𝓤 (past 6 (code.function .locals)) (past 6 bs) (some (vint w64 (i .k)) ∷ none ∷ none ∷ some (step-val r) ∷ []) (‵ (fdies (tyAt (code.function .locals) 5) l₅) ∷ localsOf 𝓤 (code.function .locals) (l₀ ∷ l₁ ∷ l₂ ∷ l₃ ∷ l₄ ∷ []) (none ∷ some (sliceVal (b₀, o₀) (length sheet)) ∷ some (sliceVal (b₁, o₁) (length rules)) ∷ some (sliceVal (b, o) (length (i .zs))) ∷ some (vint w64 (length sheet / 24)) ∷ []) [])))
           (runs (𝓣 .C) (𝓣 .Λ) En t₂ (anyQ (Turned i)))
       unfolding afterTurn partOf
       answers less r zs t same e gr =
