@@ -2,6 +2,7 @@ pub mod Calls
 pub mod Facts
 pub mod Fields
 pub mod Leaving
+pub mod Lends
 pub mod Locals
 pub mod Parts
 pub mod Rows
