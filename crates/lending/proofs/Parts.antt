@@ -1,5 +1,5 @@
 -- Shared slices that a walk lends on, and parts of them.
---     Lent R       a `&[T]` that is lent on at its own lifetime: for how long, at which share of the token, where it lies, its name, and the elements.        lent-ref, lent-val, lent-own       its denotation, its machine value, and what it owns
+--     Lent R       a `&[T]` that is lent on at its own lifetime: for how long, at which share of the token, where it lies, its name, and the elements.        lent-of        a parameter as one.        lent-ref, lent-val, lent-own       its denotation, its machine value, and what it owns
 --     lent-twice   what it owns is had twice, since a `&` is Copy
 --     part-of      the elements from a to e, under a new name, at the place p of element a: `&s[a..e]` at the lifetime of s
 --     share-part   what s owns, with its token, becomes what that part owns; the token comes back. Do `lent-twice` first, where s is used again.
@@ -36,6 +36,9 @@ pub record Lent (R : RattleType) : Type 0 where
   pub now : List (R .Denot)
 
 module _ {R : RattleType} where
+  abbrev pub lent-of : Lft → Share → RefT (List (R .Denot)) → Lent R
+  lent-of κ q x = record { life = κ; share = q; b = x .ptr .0; o = x .ptr .1; name = x .name; now = x .now }
+
   abbrev pub lent-ref : Lent R → RefT (List (R .Denot))
   lent-ref s = rows (s .b) (s .o) (s .name) (s .now)
 
