@@ -48,6 +48,9 @@ module _ (n k : ℕ) where
   pub part-fits : n < 2 ^ 64 → k < n / 24 → 24 * k + 24 - 24 * k < 2 ^ 64
   part-fits h l = omega (arith, end-fits h l)
 
+  pub number-fits : n < 2 ^ 64 → k < n / 24 → k < 2 ^ 64
+  number-fits h l = omega (arith, l, count-fits n h)
+
   pub at-inside : k < n / 24 → 24 * k ≤ n
   at-inside l = omega (arith, record-inside k n l)
 
