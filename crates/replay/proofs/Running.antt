@@ -27,9 +27,8 @@ use denote.Enum.Laws as EL
 use denote.Triple.Statement.{Contract, Triple}
 use denote.Triple.Spec.{tripleOf}
 use Rattle.lending.proofs.Facts.{beside}
-use Rattle.lending.proofs.Lends.{call-with-row}
-use Rattle.lending.proofs.Parts.{Lent, lent-ref, lent-val, lent-own}
-use Rattle.lending.proofs.Rows.{rows}
+use Rattle.lending.proofs.Lends.{passed, lent-for, call-with-row}
+use Rattle.lending.proofs.Parts.{Lent, lent-val, lent-own}
 use Rattle.sheet.specs.declared.Verdict.the-variants.{Fine}
 use Rattle.sheet.specs.Checks.{checkLengths}
 use Rattle.sheet.specs.Editions.{narrow, replayRecords}
@@ -57,16 +56,7 @@ module _ {M : Type 1} (𝓤 : URA M) (H : Heap 𝓤) (A : Atoms 𝓤) (mem : Mem
   module _ (s₀ s₁ : Lent u8) (ν : ℕ) (δ : GName) (ys : List Slot) (b o : ℕ) where
     -- what the triple binds outside, at the row lent for ν under δ
     abbrev pub to-run : Run .Ghost
-    to-run = (
-      (
-        (s₀ .life, (s₁ .life, (ν ∷ [], tt))),
-        (s₀ .share, (s₁ .share, (fullShare, tt))),
-        tt,
-        (lent-ref s₀, (lent-ref s₁, (rows b o δ ys, tt))),
-        (lent-val s₀ ∷ [], (lent-val s₁ ∷ [], (sliceVal (b, o) (length ys) ∷ [], tt))),
-      ),
-      tt,
-    )
+    to-run = (passed s₀ s₁ (lent-for T.the-row ys b o ν δ) tt tt, tt)
 
 module _ {M : Type 1} {𝓤 : URA M} {H : Heap 𝓤} {A : Atoms 𝓤} {K : Type 0} {W : Given 𝓤 H A} {Γ : List (Item 𝓤)}
     {E : Env 𝓤 H} {C : Calls 𝓤 H} {Λ : Loops 𝓤 H} {q : Post 𝓤 H} {d : Place} {rest : Body} {xs : List Operand} where

@@ -55,10 +55,9 @@ use Rattle.step.proofs.empty.Met as empty-thm
 use Rattle.lending.proofs.Arrays.{repeat-is, array-part, part-array}
 use Rattle.lending.proofs.Calls.{call-plain}
 use Rattle.lending.proofs.Leaving.{lays, leaves}
-use Rattle.lending.proofs.Lends.{call-with-row}
+use Rattle.lending.proofs.Lends.{passed, lent-for, call-with-row}
 use Rattle.lending.proofs.Parts.{Lent, lent-ref, lent-val, lent-own}
 use Rattle.lending.proofs.Locals.{tyAt}
-use Rattle.lending.proofs.Rows.{rows}
 use Rattle.look.specs.After.{afterRecords, lookAt, lookOf}
 use Rattle.look.specs.After.{Look as Looked}
 use Rattle.look.specs.declared.Look.{Look}
@@ -112,7 +111,7 @@ module _ {M : Type 1} (𝓤 : URA M) (H : Heap 𝓤) (A : Atoms 𝓤) (W : Given
 
   -- what the triple of `look_from` binds outside, at the row lent for ν under δ
   abbrev to-from : List Slot → ℕ → ℕ → ℕ → GName → From 𝓤 H A at-mem run .Ghost
-  to-from ys b o ν δ = (((κ₀, (κ₁, (ν ∷ [], tt))), (q₀, (q₁, (fullShare, tt))), tt, (lent-ref lent-sheet, (lent-ref lent-rules, (rows b o δ ys, (records, (j, tt))))), (lent-val lent-sheet ∷ [], (lent-val lent-rules ∷ [], (sliceVal (b, o) (length ys) ∷ [], (vint w64 records ∷ [], (nv j ∷ [], tt)))))), tt)
+  to-from ys b o ν δ = (passed lent-sheet lent-rules (lent-for T.the-row ys b o ν δ) (records, (j, tt)) (vint w64 records ∷ [], (nv j ∷ [], tt)), tt)
 
   -- `look_from(sheet, rules, &mut row, records, at)` is one step: both references go at the caller's own lifetimes, and the row for the call alone
   call-from : {K : Type 0} {Γ : List (Item 𝓤)} {E : Env 𝓤 H} {C : Calls 𝓤 H} {Λ : Loops 𝓤 H} {q : Goes 𝓤 H} {d : Place} {rest : Body} {xs : List Operand}

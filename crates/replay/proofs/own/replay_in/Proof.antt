@@ -57,10 +57,9 @@ use Rattle.step.proofs.empty.Met as empty-thm
 use Rattle.lending.proofs.Arrays.{repeat-is, array-part, part-array}
 use Rattle.lending.proofs.Calls.{call-plain}
 use Rattle.lending.proofs.Leaving.{lays, leaves}
-use Rattle.lending.proofs.Lends.{call-with-row}
+use Rattle.lending.proofs.Lends.{passed, lent-for, call-with-row}
 use Rattle.lending.proofs.Parts.{Lent, lent-ref, lent-val, lent-own}
 use Rattle.lending.proofs.Locals.{tyAt}
-use Rattle.lending.proofs.Rows.{rows}
 use Rattle.step.specs.Answers.{said}
 use Rattle.step.specs.declared.answer.ReplayAnswer.{ReplayAnswer}
 use Rattle.row.proofs.Prims.{sv, Empty}
@@ -112,7 +111,7 @@ module _ {M : Type 1} (𝓤 : URA M) (H : Heap 𝓤) (A : Atoms 𝓤) (W : Given
 
   -- what the triple of `replay` binds outside, at the row lent for ν under δ
   abbrev to-replay : List Slot → ℕ → ℕ → ℕ → GName → Replay 𝓤 H A at-mem run .Ghost
-  to-replay ys b o ν δ = (((κ₀, (κ₁, (ν ∷ [], tt))), (q₀, (q₁, (fullShare, tt))), tt, (lent-ref lent-sheet, (lent-ref lent-rules, (rows b o δ ys, tt))), (lent-val lent-sheet ∷ [], (lent-val lent-rules ∷ [], (sliceVal (b, o) (length ys) ∷ [], tt)))), tt)
+  to-replay ys b o ν δ = (passed lent-sheet lent-rules (lent-for T.the-row ys b o ν δ) tt tt, tt)
 
   -- `replay(sheet, rules, &mut row)` is one step: both references go at the caller's own lifetimes, and the row for the call alone
   call-replay : {K : Type 0} {Γ : List (Item 𝓤)} {E : Env 𝓤 H} {C : Calls 𝓤 H} {Λ : Loops 𝓤 H} {q : Goes 𝓤 H} {d : Place} {rest : Body} {xs : List Operand}
