@@ -1,7 +1,6 @@
 pub mod Answers
 pub mod Going
 pub mod Owned
-pub mod Running
 pub mod Stepping
 pub mod Unique
 pub mod Values

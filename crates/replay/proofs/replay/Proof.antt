@@ -1,7 +1,7 @@
 -- `replay::replay` meets its contract: a walk of its MIR, by hand. The row is opened at entry and closed at exit; where the lengths pass, it is lent to `clear`, to `run` and to `clear` again.
 -- Assumes nothing.
 use mathlib.Core.Path.{_≡_, refl, sym, ap, _∙_}
-use Prim.Native.Nat.{ℕ}
+use Prim.Native.Nat.{ℕ, _/_}
 use mathlib.Core.List.{List, [], _∷_}
 use mathlib.Core.Option.{none, some}
 use lib.ListN.{length}
@@ -39,8 +39,9 @@ use mathlib.Core.Bool.{true, false}
 use lib.Dec.{lit<}
 use lib.Ieee.Bits.{is-true, is-false}
 use Rattle.lending.proofs.Calls.{call-plain}
+use Rattle.lending.proofs.Facts.{beside}
 use Rattle.lending.proofs.Leaving.{leaves}
-use Rattle.lending.proofs.Lends.{passed, Tokens, Opened, Closed, opens-with-row, ends-with-row}
+use Rattle.lending.proofs.Lends.{passed, lent-for, call-with-row, Tokens, Opened, Closed, opens-with-row, ends-with-row}
 use Rattle.lending.proofs.Locals.{envOf, localsOf, tyAt, then}
 use Rattle.lending.proofs.Parts.{lent-of, lent-val, Lent}
 use Rattle.lending.proofs.Rows.{room-at}
@@ -53,8 +54,8 @@ use Rattle.sheet.proofs.checks.check_lengths as lengths′
 use Rattle.sheet.proofs.checks.check_lengths.Symbol as lengths-def
 use Rattle.sheet.proofs.checks.check_lengths.Symbol.{name as #lengths}
 use Rattle.sheet.proofs.checks.check_lengths.Met as lengths-thm
-use Rattle.replaying.specs.Step.{passes}
-use Rattle.replaying.specs.Replay.{refused, outcome, replay}
+use Rattle.replaying.specs.Step.{state, tally, passes}
+use Rattle.replaying.specs.Replay.{refused, outcome, replay, run as runs-to}
 use Rattle.step.specs.declared.Slot.{Slot}
 use Rattle.step.specs.Said.{rowOf}
 use Rattle.step.proofs.Slot as T
@@ -65,7 +66,6 @@ use Rattle.step.proofs.answer.ReplayAnswer.Laws as B′
 use Rattle.replay.proofs.Values.{answer-val, verdict-val}
 use Rattle.row.proofs.Prims.{Clear, call-clear}
 use Rattle.replay.proofs.Answers.{Passes, Refuses, call-passes, call-refused}
-use Rattle.replay.proofs.Running.{Run, call-run}
 use Rattle.replay.proofs.Whole.{cleared-length, fine-is, comes-fine, comes-refused}
 use Rattle.step.proofs.answer.passes.Symbol as passes-def
 use Rattle.step.proofs.answer.passes.Symbol.{name as #passes}
@@ -76,6 +76,7 @@ use Rattle.step.proofs.answer.refused.Met as refused-thm
 use Rattle.row.proofs.clear.Symbol as clear-def
 use Rattle.row.proofs.clear.Symbol.{name as #clear}
 use Rattle.row.proofs.clear.Met as clear-thm
+use Rattle.replay.proofs.run.run as run′
 use Rattle.replay.proofs.run.run.Symbol as run-def
 use Rattle.replay.proofs.run.run.Symbol.{name as #run}
 use Rattle.replay.proofs.run.run.Met as run-thm
@@ -94,11 +95,14 @@ module _ {M : Type 1} (𝓤 : URA M) (H : Heap 𝓤) (A : Atoms 𝓤) (at-mem : 
   abbrev Lengths : Contract 𝓤
   Lengths = tripleOf 𝓤 H A lengths′.signature (lengths′.spec 𝓤 H A at-mem run)
 
+  abbrev Run : Contract 𝓤
+  Run = tripleOf 𝓤 H A run′.signature (run′.spec 𝓤 H A at-mem run)
+
   record Known (C : Calls 𝓤 H) : Type 1 where
     lengths : Triple 𝓤 (C #lengths) Lengths
     passes : Triple 𝓤 (C #passes) (Passes 𝓤 H A at-mem run)
     clear : Triple 𝓤 (C #clear) (Clear 𝓤 H A at-mem run)
-    runs-it : Triple 𝓤 (C #run) (Run 𝓤 H A at-mem run)
+    runs-it : Triple 𝓤 (C #run) Run
     refused : Triple 𝓤 (C #refused) (Refuses 𝓤 H A at-mem run)
 
 module _ {M : Type 1} (𝓤 : URA M) (H : Heap 𝓤) (A : Atoms 𝓤) (W : Given 𝓤 H A) (at-mem : Memory → SProp 𝓤) (run : Routine → Fun 𝓤) (sheet rules : Lent u8) (slots : Lent T.the-row)
@@ -147,7 +151,9 @@ module _ {M : Type 1} (𝓤 : URA M) (H : Heap 𝓤) (A : Atoms 𝓤) (W : Given
           rewrite ! 32 (λ (c : ℕ). ‵ (fat fullShare (tyAt (code.function .locals) 3) l₃ 0 (sliceVal (slots .b, slots .o) c))) (sym (cleared-length (slots .now) zs₁ e₁)) refl $
           assigns ! (addr ! (from ! (fld ! refl (hop ! (look-in ! 32 (sub ! 0 refl (whole !))) (stop !))))) (from ! (stop !)) (init ! 14 refl (tt, tt)) $
           assigns ! (agg ! (and-then ! (load ! (from ! (stop !)) (look ! 14 refl)) (and-then ! (load ! (from ! (fld ! refl (stop !))) (look-in ! 32 (sub ! 1 refl (whole !)))) (no-more !)))) (from ! (stop !)) (init ! 12 refl (tt, (tt, (record { fits = room-at T.the-row (cleared-length (slots .now) zs₁ e₁) room .0 }, tt)))) $
-          call-run ! at-mem run fm (known .runs-it) sheet rules zs₁ (slots .b) (slots .o) (room-at T.the-row (cleared-length (slots .now) zs₁ e₁) room) (fine-is verdict pass) (λ ν δ. (and-then ! (load ! (from ! (stop !)) (look ! 33 refl)) (and-then ! (load ! (from ! (stop !)) (look ! 31 refl)) (and-then ! (load ! (from ! (stop !)) (look ! 9 refl)) (no-more !))))) (λ r zs₂ e₂ gr.
+          call-with-row ! fm (Run 𝓤 H A at-mem run) (known .runs-it) T.the-row sheet rules zs₁ (slots .b) (slots .o) (room-at T.the-row (cleared-length (slots .now) zs₁ e₁) room) (λ ν δ. (passed sheet rules (lent-for T.the-row zs₁ (slots .b) (slots .o) ν δ) tt tt, tt)) ftrue (id⊢ 𝓤 _) (λ ν δ. beside 𝓤 (fine-is verdict pass))
+          B.the-row answer-val (EL.tells B.the-type B′.the-laws) {X = Unit {0} × (Unit {0} × (List Slot × Unit {0}))} (λ ws. ws .1 .1 .0) ftrue (λ r zs. (said r ≡ runs-to narrow (rules .now) (sheet .now) (length (sheet .now) / 24) 0 (state (tally 0 0 0 0) (rowOf zs₁))) × (length zs ≡ length zs₁)) (λ ν δ w. id⊢ 𝓤 _)
+          (λ ν δ. (and-then ! (load ! (from ! (stop !)) (look ! 33 refl)) (and-then ! (load ! (from ! (stop !)) (look ! 31 refl)) (and-then ! (load ! (from ! (stop !)) (look ! 9 refl)) (no-more !))))) (λ r zs₂ _ e₂ gr.
           -- [the row 0; sheet's token 1; rules's 2; its open borrow 3; obs 4; auth 5; locals from 6]
           land ! (from ! (stop !)) (init ! 26 refl (EL.lawful B.the-type B′.the-laws 𝓤 H A W tt .typed r _ gr .0)) $ forget ! 12 refl $ forget ! 10 refl $
           rewrite ! 30 (λ (c : ℕ). ‵ (fat fullShare (tyAt (code.function .locals) 3) l₃ 0 (sliceVal (slots .b, slots .o) c))) (sym (e₂ .1)) refl $
