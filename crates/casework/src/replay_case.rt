@@ -85,7 +85,7 @@ fn print_record(sheet: &[u8], rules: &[u8], slots: usize, records: usize) -> boo
 
 // Record after record, up to one that is refused; none where the lengths are.
 pub fn show(sheet: &[u8], rules: &[u8], slots: usize) {
-    let verdict = sheet::checks::check_lengths(
+    let verdict = checks::check_lengths(
         sheet::limits::REPLAY_RECORDS,
         sheet.len(),
         rules.len(),

@@ -14,7 +14,7 @@ use Rattle.sheet.specs.Records.{Node, Record}
 use Rattle.sheet.specs.Fields.{sheetBytes, ruleLines}
 use Rattle.sheet.specs.Fitting.{Fitting}
 use Rattle.sheet.specs.Proper.{recordIn, ReadsAs, Proper}
-use Rattle.sheet.proofs.Fields.{length-sheetBytes, recordAt-sheet, known-all, reading-written}
+use Rattle.sheet.proofs.RecordBytes.{length-sheetBytes, recordAt-sheet, known-all, reading-written}
 use Rattle.sheet.proofs.Fine.{Lines}
 use Rattle.pressing.specs.Drops.{withDrops, markLines}
 use Rattle.pressing.specs.Press.{Outcome, pressed, emit, emitted, press}

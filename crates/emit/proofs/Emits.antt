@@ -12,7 +12,7 @@ use Rattle.sheet.specs.Editions.{narrow, recordBytes}
 use Rattle.sheet.specs.Records.{Node, Record, node, drop}
 use Rattle.sheet.specs.Fields.{recordBytesOf, sheetBytes}
 use Rattle.sheet.specs.Counts.{nodesOf, stepOf, stepsOf, peakFrom}
-use Rattle.sheet.proofs.Fields.{length-recordBytesOf, length-sheetBytes}
+use Rattle.sheet.proofs.RecordBytes.{length-recordBytesOf, length-sheetBytes}
 use Rattle.emit.specs.Emission.{Emission, emission, emitRecord, emitAll}
 
 pub emitAll-append : (xs ys : List Record) (e : Emission) → emitAll (xs ++ ys) e ≡ emitAll ys (emitAll xs e)

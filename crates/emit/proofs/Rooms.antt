@@ -14,7 +14,7 @@ use Rattle.sheet.specs.Editions.{narrow}
 use Rattle.sheet.specs.Records.{Node, given, step, Record, node, drop, nodeAt}
 use Rattle.sheet.specs.Fields.{recordBytesOf}
 use Rattle.sheet.specs.Counts.{stepOf}
-use Rattle.sheet.proofs.Fields.{length-recordBytesOf}
+use Rattle.sheet.proofs.RecordBytes.{length-recordBytesOf}
 use Rattle.pressing.specs.Trim.{uses}
 use Rattle.pressing.specs.Drops.{dropLast, dropsAfter, withDrops}
 use Rattle.emit.specs.Emission.{Emission, emitRecord, emitAll, recordsAt, Roomy}

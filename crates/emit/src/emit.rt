@@ -70,7 +70,7 @@ pub fn emit_record(out: &mut [u8], e: Emitted, r: Record) -> Emitted
     requires { ⌜ 24 * e .records + 24 ≤ length (now out) ⌝ }
     ensures { λ f. ⌜ emissionOf (now (out .exit)) f ≡ emitRecord (recordOf r) (emissionOf (now (out .entry)) e) ⌝ }
 {
-    sheet::write::put_record(out, RecordNo(base::wide(e.records)), r);
+    write::put_record(out, RecordNo(base::wide(e.records)), r);
     counted(e, r)
 }
 

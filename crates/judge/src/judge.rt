@@ -42,7 +42,7 @@ fn check_room(records: usize, lines: usize, room: usize, marks: usize) -> Verdic
 pub fn judge_lengths(sheet: usize, rules: usize, room: usize, marks: usize) -> Verdict
     ensures { λ v. ⌜ v ≡ checkPress narrow sheet rules room marks ⌝ }
 {
-    let verdict = sheet::checks::check_lengths(sheet::limits::PRESS_RECORDS, sheet, rules);
+    let verdict = checks::check_lengths(sheet::limits::PRESS_RECORDS, sheet, rules);
     let Verdict::Fine = verdict else {
         return verdict;
     };
@@ -65,17 +65,17 @@ fn check_step(
     requires { ⌜ (length (now positives) ≡ length (now heads)) × (length (now negatives) ≡ length (now heads)) × (next .0 ≤ length (now heads)) ⌝ }
     ensures { λ v. ⌜ ((rules : List ℕ) → v ≡ checkNode narrow rules (take (next .0) (nodesIn (now (heads .entry)) (now (positives .entry)) (now (negatives .entry)))) (step p (l .0) (r .0) (literalsOf c))) ⌝ }
 {
-    let left = sheet::checks::check_earlier(next, l);
+    let left = checks::check_earlier(next, l);
     let Verdict::Fine = left else {
         return left;
     };
-    let right = sheet::checks::check_earlier(next, r);
+    let right = checks::check_earlier(next, r);
     let Verdict::Fine = right else {
         return right;
     };
     let a = node::clause_at(positives, negatives, l);
     let b = node::clause_at(positives, negatives, r);
-    sheet::checks::check_step(p, a, b, c)
+    checks::check_step(p, a, b, c)
 }
 
 // Record k: it is judged against the k nodes before it, and stored as node k if it is proper.
@@ -90,13 +90,13 @@ fn judge_turn(
     requires { ⌜ (length (now positives) ≡ length (now heads)) × (length (now negatives) ≡ length (now heads)) × (k .0 < length (now heads)) × (24 ≤ length (now bytes)) ⌝ }
     ensures { λ v. ⌜ (v ≡ turnSays (turn narrow (now (rules .entry)) (now (bytes .entry)) (take (k .0) (nodesIn (now (heads .entry)) (now (positives .entry)) (now (negatives .entry)))))) × (nodesIn (now (heads .exit)) (now (positives .exit)) (now (negatives .exit)) ≡ turnStores (k .0) (turn narrow (now (rules .entry)) (now (bytes .entry)) (take (k .0) (nodesIn (now (heads .entry)) (now (positives .entry)) (now (negatives .entry))))) (nodesIn (now (heads .entry)) (now (positives .entry)) (now (negatives .entry)))) ⌝ }
 {
-    let reading = sheet::read::read_record(bytes, false);
+    let reading = read::read_record(bytes, false);
     let Reading::Reads(record) = reading else {
-        return Verdict::Refused(sheet::read::why_unread(reading));
+        return Verdict::Refused(read::why_unread(reading));
     };
     match record {
         Record::Given { line, clause } => {
-            let verdict = sheet::checks::check_given(rules, line, clause);
+            let verdict = checks::check_given(rules, line, clause);
             let Verdict::Fine = verdict else {
                 return verdict;
             };

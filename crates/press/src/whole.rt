@@ -124,6 +124,6 @@ pub fn press_records(
         Judgement::Proper => {}
         Judgement::Bad(why, k) => return PressAnswer::Refused(why, k),
     }
-    let lines = sheet::lines::line_count(rules);
+    let lines = read::lines::line_count(rules);
     PressAnswer::Accepted(press_nodes(heads, positives, negatives, lines, out, marks))
 }

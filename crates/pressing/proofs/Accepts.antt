@@ -19,7 +19,7 @@ use Rattle.sheet.specs.Fitting.{Known}
 use Rattle.sheet.specs.Counts.{nodesOf, stepsOf, peakFrom}
 use Rattle.sheet.specs.Proper.{recordIn, clauseIn, Held, ProperAfter, ReadsAs, Proper}
 use Rattle.sheet.proofs.Reasons.{unless-fine, fine-unless, andThen-fine, fine-andThen}
-use Rattle.sheet.proofs.Fields.{reading-known}
+use Rattle.sheet.proofs.RecordBytes.{reading-known}
 use Rattle.sheet.proofs.Fine.{Lengths, lengths-fine, fine-lengths}
 use Rattle.pressing.specs.Judge.{checkRoom, checkPress, Judged, proper, bad, judge}
 use Rattle.pressing.specs.Drops.{withDrops, markLines, total}

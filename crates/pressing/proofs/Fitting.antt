@@ -9,7 +9,7 @@ use Rattle.sheet.specs.Records.{Node, given, step, node, clause, nodeAt}
 use Rattle.sheet.specs.Fields.{ruleLines}
 use Rattle.sheet.specs.Fitting.{Fits, Fitting}
 use Rattle.sheet.specs.Proper.{recordIn}
-use Rattle.sheet.proofs.Fields.{ruleLine-below}
+use Rattle.sheet.proofs.RecordBytes.{ruleLine-below}
 use Rattle.pressing.specs.Drops.{withDrops}
 use Rattle.pressing.proofs.Proper.{ProperNode, AllProper}
 use Rattle.pressing.proofs.Nodes.{by-rising, proper-falling}

@@ -40,7 +40,7 @@ pub fn step(
 pub fn replay(sheet: &[u8], rules: &[u8], slots: &mut [Slot]) -> answer::ReplayAnswer
     ensures { λ r. ⌜ outcome (said r) (rowOf (now (slots .exit))) ≡ replay narrow (now (sheet .entry)) (now (rules .entry)) (rowOf (now (slots .entry))) ⌝ }
 {
-    let verdict = sheet::checks::check_lengths(
+    let verdict = checks::check_lengths(
         sheet::limits::REPLAY_RECORDS,
         sheet.len(),
         rules.len(),

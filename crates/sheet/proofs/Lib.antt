@@ -1,3 +1,3 @@
 pub mod Reasons
-pub mod Fields
+pub mod RecordBytes
 pub mod Fine

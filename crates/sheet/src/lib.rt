@@ -4,11 +4,7 @@ ghost use mathlib.Core.Path.{_≡_};
 ghost use Rattle.sheet.specs.Reasons.{numberOf};
 use clause::Clause;
 
-pub mod checks;
 pub mod limits;
-pub mod lines;
-pub mod read;
-pub mod write;
 
 // A node's number: given and resolution records, counted from 0.
 #[repr(C)]
@@ -41,6 +37,16 @@ pub enum Record {
 pub enum Reading {
     Reads(Record),
     Unread(Reason),
+}
+
+// The columns of a record.
+pub struct Fields {
+    pub kind: u8,
+    pub pivot: u8,
+    pub left: u16,
+    pub right: u16,
+    pub line: u16,
+    pub clause: Clause,
 }
 
 pub enum Reason {

@@ -88,7 +88,7 @@ pub fn check_record(rules: &[u8], next: NodeNo, seen: Seen, r: Record) -> Verdic
     match r {
         Record::Given { line, clause } => {
             and_then(
-                sheet::checks::check_given(rules, line, clause),
+                checks::check_given(rules, line, clause),
                 check_room(seen),
             )
         }
@@ -99,7 +99,7 @@ pub fn check_record(rules: &[u8], next: NodeNo, seen: Seen, r: Record) -> Verdic
             clause,
         } => {
             let stepped = and_then(
-                sheet::checks::check_step(pivot, seen.left, seen.right, clause),
+                checks::check_step(pivot, seen.left, seen.right, clause),
                 check_room(seen),
             );
             and_then(check_names(next, Names { left, right }, seen), stepped)
@@ -170,7 +170,7 @@ pub fn fits(rules: usize, bytes: usize, t: Tally) -> bool
     if bytes != sheet::limits::RECORD_BYTES {
         return false;
     }
-    let verdict = sheet::checks::check_table(rules);
+    let verdict = checks::check_table(rules);
     let Verdict::Fine = verdict else {
         return false;
     };

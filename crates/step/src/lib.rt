@@ -106,7 +106,7 @@ pub fn names_read(bytes: &[u8]) -> Names
     if bytes.len() != sheet::limits::RECORD_BYTES {
         return none;
     }
-    let reading = sheet::read::read_record(bytes, true);
+    let reading = read::read_record(bytes, true);
     let Reading::Reads(r) = reading else {
         return none;
     };
@@ -207,10 +207,10 @@ pub fn decide(
     if !check::fits(rules.len(), bytes.len(), t) {
         return unchanged(StepAnswer::Unfit, t, count);
     }
-    let reading = sheet::read::read_record(bytes, true);
+    let reading = read::read_record(bytes, true);
     let Reading::Reads(r) = reading else {
         return unchanged(
-            StepAnswer::Refused(sheet::read::why_unread(reading), number),
+            StepAnswer::Refused(read::why_unread(reading), number),
             t,
             count,
         );

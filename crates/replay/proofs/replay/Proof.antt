@@ -50,10 +50,10 @@ use Rattle.sheet.specs.Checks.{checkLengths}
 use Rattle.sheet.specs.Editions.{narrow, replayRecords}
 use Rattle.sheet.proofs.Verdict as J
 use Rattle.sheet.proofs.Verdict.Laws as J′
-use Rattle.sheet.proofs.checks.check_lengths as lengths′
-use Rattle.sheet.proofs.checks.check_lengths.Symbol as lengths-def
-use Rattle.sheet.proofs.checks.check_lengths.Symbol.{name as #lengths}
-use Rattle.sheet.proofs.checks.check_lengths.Met as lengths-thm
+use Rattle.checks.proofs.check_lengths as lengths′
+use Rattle.checks.proofs.check_lengths.Symbol as lengths-def
+use Rattle.checks.proofs.check_lengths.Symbol.{name as #lengths}
+use Rattle.checks.proofs.check_lengths.Met as lengths-thm
 use Rattle.replaying.specs.Step.{state, tally, passes}
 use Rattle.replaying.specs.Replay.{refused, outcome, replay, run as runs-to}
 use Rattle.step.specs.declared.Slot.{Slot}
@@ -206,7 +206,7 @@ replay-spec 𝓤 H 𝓜 𝓖 𝓡 =
     (tables 𝓤 H 𝓜 𝓡 code.env .C) (tables 𝓤 H 𝓜 𝓡 code.env .Λ) #key code.function (code.unfolded 𝓤 H 𝓜 𝓡)
     (meets 𝓤 H (𝓖 .A) (givenOf 𝓤 H 𝓜 𝓖) (𝓜 .mem) (𝓡 .run) (tablesOf 𝓤 H 𝓜 (tables 𝓤 H 𝓜 𝓡 code.env))
     (record {
-      lengths = cited 𝓤 H (Lengths 𝓤 H (𝓖 .A) (𝓜 .mem) (𝓡 .run)) 𝓜 𝓡 code.env #lengths lengths-def.routine code.calls-sheet·checks·check-lengths (lengths-thm.met 𝓤 H 𝓜 𝓖 𝓡);
+      lengths = cited 𝓤 H (Lengths 𝓤 H (𝓖 .A) (𝓜 .mem) (𝓡 .run)) 𝓜 𝓡 code.env #lengths lengths-def.routine code.calls-checks·check-lengths (lengths-thm.met 𝓤 H 𝓜 𝓖 𝓡);
       passes = cited 𝓤 H (Passes 𝓤 H (𝓖 .A) (𝓜 .mem) (𝓡 .run)) 𝓜 𝓡 code.env #passes passes-def.routine code.calls-step·answer·passes (passes-thm.met 𝓤 H 𝓜 𝓖 𝓡);
       clear = cited 𝓤 H (Clear 𝓤 H (𝓖 .A) (𝓜 .mem) (𝓡 .run)) 𝓜 𝓡 code.env #clear clear-def.routine code.calls-row·clear (clear-thm.met 𝓤 H 𝓜 𝓖 𝓡);
       runs-it = cited 𝓤 H (Run 𝓤 H (𝓖 .A) (𝓜 .mem) (𝓡 .run)) 𝓜 𝓡 code.env #run run-def.routine code.calls-replay·run·run (run-thm.met 𝓤 H 𝓜 𝓖 𝓡);

@@ -1,0 +1,122 @@
+// Reading a record: its fields by the columns of document 01's table, then its kind (6), the bytes that must be zero (7), the pivot (8).
+ghost use mathlib.Core.Path.{_≡_};
+ghost use Prim.Native.Nat.{_+_, _≤_};
+ghost use lib.ListN.{length};
+ghost use Rattle.sheet.specs.Editions.{narrow};
+ghost use Rattle.sheet.specs.Fields.{clauseAt, fieldsOf, readGiven, readStep, readDrop, readFields, reading};
+ghost use Rattle.sheet.specs.Denote.{fieldsIn, readingOf, whyUnread};
+ghost use Rattle.clause.specs.Denote.{literalsOf};
+use sheet::Fields;
+use sheet::LineNo;
+use sheet::NodeNo;
+use sheet::Reading;
+use sheet::Reason;
+use sheet::Record;
+use sheet::limits;
+use clause::Clause;
+use clause::Set;
+
+pub mod lines;
+
+// Two sets of eight bytes, one after the other.
+pub fn clause_at(b: &[u8], at: usize) -> Clause
+    requires { ⌜ at + 16 ≤ length (now b) ⌝ }
+    ensures { λ r. ⌜ literalsOf r ≡ clauseAt narrow (now (b .entry)) at ⌝ }
+{
+    Clause {
+        positive: Set(base::word_at(b, at)),
+        negative: Set(base::word_at(b, at + 8)),
+    }
+}
+
+fn fields_of(b: &[u8]) -> Fields
+    requires { ⌜ 24 ≤ length (now b) ⌝ }
+    ensures { λ r. ⌜ fieldsIn r ≡ fieldsOf narrow (now (b .entry)) ⌝ }
+{
+    Fields {
+        kind: b[0],
+        pivot: b[1],
+        left: base::u16_at(b, 2),
+        right: base::u16_at(b, 4),
+        line: base::u16_at(b, 6),
+        clause: clause_at(b, 8),
+    }
+}
+
+fn read_given(f: Fields) -> Reading
+    ensures { λ r. ⌜ readingOf r ≡ readGiven (fieldsIn f) ⌝ }
+{
+    let clause = f.clause;
+    if f.pivot == 0 && f.left == 0 && f.right == 0 {
+        return Reading::Reads(Record::Given {
+            line: LineNo(f.line),
+            clause,
+        });
+    }
+    Reading::Unread(Reason::NotZero)
+}
+
+fn read_step(f: Fields) -> Reading
+    ensures { λ r. ⌜ readingOf r ≡ readStep narrow (fieldsIn f) ⌝ }
+{
+    let clause = f.clause;
+    if f.line != 0 {
+        return Reading::Unread(Reason::NotZero);
+    }
+    if f.pivot < limits::VARIABLES {
+        return Reading::Reads(Record::Step {
+            pivot: f.pivot,
+            left: NodeNo(f.left),
+            right: NodeNo(f.right),
+            clause,
+        });
+    }
+    Reading::Unread(Reason::Pivot)
+}
+
+fn read_drop(f: Fields) -> Reading
+    ensures { λ r. ⌜ readingOf r ≡ readDrop (fieldsIn f) ⌝ }
+{
+    let none = Clause {
+        positive: Set(0),
+        negative: Set(0),
+    };
+    if f.pivot == 0 && f.right == 0 && f.line == 0 && clause::same(f.clause, none) {
+        return Reading::Reads(Record::Drop(NodeNo(f.left)));
+    }
+    Reading::Unread(Reason::NotZero)
+}
+
+fn read_fields(f: Fields, drops: bool) -> Reading
+    ensures { λ r. ⌜ readingOf r ≡ readFields narrow drops (fieldsIn f) ⌝ }
+{
+    let kind = f.kind;
+    if kind == 1 {
+        return read_given(f);
+    }
+    if kind == 2 {
+        return read_step(f);
+    }
+    if kind == 3 && drops {
+        return read_drop(f);
+    }
+    Reading::Unread(Reason::Kind)
+}
+
+// How the bytes of a record read; `drops` says whether a drop is a known kind, as it is for the replay.
+pub fn read_record(b: &[u8], drops: bool) -> Reading
+    requires { ⌜ 24 ≤ length (now b) ⌝ }
+    ensures { λ r. ⌜ readingOf r ≡ reading narrow drops (now (b .entry)) ⌝ }
+{
+    read_fields(fields_of(b), drops)
+}
+
+// Why a record does not read, for the else of a `let .. else`; of a record that reads it is not asked.
+pub fn why_unread(r: Reading) -> Reason
+    ensures { λ why. ⌜ why ≡ whyUnread (readingOf r) ⌝ }
+{
+    match r {
+        Reading::Reads(_) => Reason::Kind,
+        Reading::Unread(why) => why,
+    }
+}
