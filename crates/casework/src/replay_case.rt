@@ -2,11 +2,11 @@
 use sheet::SlotNo;
 use sheet::Verdict;
 use stdio::text;
-use step::Slot;
-use step::StepAnswer;
-use step::Tally;
-use step::answer::ReplayAnswer;
-use step::answer::Replayed;
+use slots::Slot;
+use slots::StepAnswer;
+use slots::Tally;
+use answer::ReplayAnswer;
+use answer::Replayed;
 
 fn print_replayed(r: Replayed) {
     text::print_ok(r.conclusion);

@@ -10,8 +10,8 @@ use Rattle.sheet.specs.Editions.{Edition, narrow, recordBytes}
 use Rattle.sheet.specs.Counts.{firstOver}
 use Rattle.replaying.specs.Slots.{Slot, empty}
 use Rattle.replaying.specs.Replay as Replay
-use Rattle.step.specs.declared.answer.ReplayAnswer.{ReplayAnswer}
-use Rattle.step.specs.Answers as ReplaySaid
+use Rattle.answer.specs.declared.ReplayAnswer.{ReplayAnswer}
+use Rattle.answer.specs.Answers as ReplaySaid
 use Rattle.pressing.specs.Drops.{withDrops}
 use Rattle.pressing.specs.Press as Press
 use Rattle.pressing.proofs.Nodes.{proper-falling}

@@ -12,15 +12,15 @@ use Rattle.sheet.specs.Records.{given, step, Record, node, nodeAt}
 use Rattle.sheet.specs.Fields.{ruleLines, ruleLine}
 use Rattle.sheet.specs.Counts.{nodesOf, stepsOf, peakFrom, firstOver}
 use Rattle.sheet.specs.Proper.{recordIn, conclusionOf, ReadsAs, Proper}
-use Rattle.step.specs.declared.Slot.{Slot as LentSlot}
-use Rattle.step.specs.declared.Tally.{Tally as LentTally}
-use Rattle.step.specs.declared.StepAnswer.{StepAnswer}
-use Rattle.step.specs.Said.{tallyOf, rowOf, saidOfStep}
-use Rattle.step.specs.declared.answer.ReplayAnswer.{ReplayAnswer}
+use Rattle.slots.specs.declared.Slot.{Slot as LentSlot}
+use Rattle.slots.specs.declared.Tally.{Tally as LentTally}
+use Rattle.slots.specs.declared.StepAnswer.{StepAnswer}
+use Rattle.slots.specs.Said.{tallyOf, rowOf, saidOfStep}
+use Rattle.answer.specs.declared.ReplayAnswer.{ReplayAnswer}
 use Rattle.replaying.specs.Slots.{Slot}
 use Rattle.replaying.specs.Step.{state, stepped, oneStep}
 use Rattle.replaying.specs.Replay as Replay
-use Rattle.step.specs.Answers as ReplaySaid
+use Rattle.answer.specs.Answers as ReplaySaid
 use Rattle.press.specs.declared.PressAnswer.{PressAnswer}
 use Rattle.pressing.specs.Press as Press
 use Rattle.press.specs.Said as PressSaid

@@ -7,7 +7,7 @@ use Rattle.sheet.specs.Editions.{Edition, recordBytes}
 use Rattle.replaying.specs.Slots.{empty}
 use Rattle.replaying.specs.Replay as Replay
 use Rattle.pressing.specs.Press as Press
-use Rattle.step.specs.Answers as ReplaySaid
+use Rattle.answer.specs.Answers as ReplaySaid
 use Rattle.press.specs.Said as PressSaid
 use Rattle.demands.specs.declared.Shipment.{Shipment}
 use Rattle.demands.specs.declared.Shipment.the-variants as S

@@ -7,7 +7,7 @@ use press::PressAnswer;
 use press::Pressed;
 use sheet::Reason;
 use sheet::RecordNo;
-use step::answer::ReplayAnswer;
+use answer::ReplayAnswer;
 
 // The press refused; or what it reported, and what the replay of its output answered.
 pub enum Shipment {

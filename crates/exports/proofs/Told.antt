@@ -4,10 +4,10 @@ use mathlib.Core.List.{List}
 use Prim.Native.Nat.{ℕ}
 use Rattle.pressing.specs.Press.{Answer, Outcome}
 use Rattle.replaying.specs.Replay.{Outcome as ReplayOutcome, outcome as replay-outcome}
-use Rattle.step.specs.declared.Slot.{Slot}
-use Rattle.step.specs.Said.{rowOf}
-use Rattle.step.specs.declared.answer.ReplayAnswer.{ReplayAnswer}
-use Rattle.step.specs.Answers.{said as said-of-replay}
+use Rattle.slots.specs.declared.Slot.{Slot}
+use Rattle.slots.specs.Said.{rowOf}
+use Rattle.answer.specs.declared.ReplayAnswer.{ReplayAnswer}
+use Rattle.answer.specs.Answers.{said as said-of-replay}
 use Rattle.report.specs.Report.{fill, pressCode, pressWords, replayCode, replayWords}
 
 -- the answer of a press, told

@@ -4,8 +4,8 @@ use mathlib.Core.List.{List}
 use Prim.Native.Nat.{ℕ}
 use Rattle.pressing.specs.Press.{Outcome}
 use Rattle.replaying.specs.Replay.{Outcome as ReplayOutcome}
-use Rattle.step.specs.declared.Slot.{Slot}
-use Rattle.step.specs.Said.{rowOf}
+use Rattle.slots.specs.declared.Slot.{Slot}
+use Rattle.slots.specs.Said.{rowOf}
 use Rattle.replay.proofs.Unique.{rowOf-injective}
 use Rattle.report.specs.Report.{fill, pressCode, pressWords, replayCode, replayWords}
 

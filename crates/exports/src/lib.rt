@@ -3,9 +3,9 @@ ghost use mathlib.Core.Path.{_≡_};
 ghost use Rattle.sheet.specs.Editions.{narrow};
 ghost use Rattle.pressing.specs.Press.{press};
 ghost use Rattle.replaying.specs.Replay.{replay};
-ghost use Rattle.step.specs.Said.{rowOf};
+ghost use Rattle.slots.specs.Said.{rowOf};
 ghost use Rattle.report.specs.Report.{fill, pressCode, pressWords, replayCode, replayWords};
-use step::Slot;
+use slots::Slot;
 
 // Presses `sheet` against `rules` into `out`, marks the rule lines used in `marks`, and fills `report` with the record, positive,
 // negative, records, nodes, steps, peak and marked, as many as fit. Answers 0, or the number of the refusal.

@@ -6,7 +6,7 @@ use Rattle.sheet.specs.Editions.{Edition}
 use Rattle.sheet.specs.Fields.{recordAt}
 use Rattle.replaying.specs.Slots.{Slot, empty}
 use Rattle.replaying.specs.Step.{Tally, State, Step, taken, Stepped, stepped, oneStep}
-use Rattle.step.specs.Said.{saidOfStep, tallyOf, slotOf}
+use Rattle.slots.specs.Said.{saidOfStep, tallyOf, slotOf}
 use Rattle.look.specs.declared.Look.{Look as CodeLook}
 
 -- the last record's answer, and the tally and the slots then; with no record, nothing is refused

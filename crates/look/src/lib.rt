@@ -6,15 +6,14 @@ ghost use lib.ListN.{length, replicate};
 ghost use Rattle.sheet.specs.Editions.{narrow};
 ghost use Rattle.replaying.specs.Slots.{empty};
 ghost use Rattle.replaying.specs.Step.{tally, state, taken};
-ghost use Rattle.step.specs.Said.{rowOf, saidOfStep};
+ghost use Rattle.slots.specs.Said.{rowOf, saidOfStep};
 ghost use Rattle.look.specs.After.{afterRecords, lookAt, lookOf};
 use replay::own;
 use sheet::RecordNo;
 use sheet::SlotNo;
-use step::Slot;
-use step::StepAnswer;
-use step::Tally;
-use step::answer;
+use slots::Slot;
+use slots::StepAnswer;
+use slots::Tally;
 
 pub struct Look {
     pub answer: StepAnswer,
@@ -61,7 +60,7 @@ fn look_from(sheet: &[u8], rules: &[u8], slots: &mut [Slot], records: usize, at:
 pub fn look_after(sheet: &[u8], rules: &[u8], slots: usize, records: usize, at: SlotNo) -> Look
     ensures { λ r. ⌜ lookOf r ≡ lookAt (at .0) (afterRecords narrow (now (rules .entry)) (now (sheet .entry)) (state (tally 0 0 0 0) (replicate (min slots 1023) empty)) (min records (length (now (sheet .entry)) / 24))) ⌝ }
 {
-    let none = step::empty();
+    let none = slots::empty();
     let mut row = [none; 1023];
     let n = own::enough(slots);
     look_from(sheet, rules, &mut row[..n], records, at)

@@ -37,37 +37,37 @@ use Rattle.sheet.proofs.Verdict.Laws as J′
 use Rattle.replaying.specs.Slots.{Slot as RowSlot, holding}
 use Rattle.replaying.specs.Step.{state, tally, passes, refused as step-refused}
 use Rattle.replaying.specs.Replay.{refused, ending}
-use Rattle.step.specs.declared.Tally.{Tally}
-use Rattle.step.specs.declared.Found.{Found}
-use Rattle.step.specs.declared.StepAnswer.{StepAnswer}
-use Rattle.step.specs.Search.{search}
-use Rattle.step.specs.Said.{saidOfStep, tallyOf, foundOf}
-use Rattle.step.proofs.Tally as Y
-use Rattle.step.proofs.Tally.Laws as Y′
-use Rattle.step.proofs.Found as F
-use Rattle.step.proofs.Found.Laws as F′
-use Rattle.step.proofs.StepAnswer as S
-use Rattle.step.proofs.StepAnswer.Laws as S′
-use Rattle.step.specs.declared.answer.ReplayAnswer.{ReplayAnswer}
-use Rattle.step.specs.Answers.{said, isTaken}
-use Rattle.step.proofs.answer.ReplayAnswer as B
-use Rattle.step.proofs.answer.ReplayAnswer.Laws as B′
+use Rattle.slots.specs.declared.Tally.{Tally}
+use Rattle.slots.specs.declared.Found.{Found}
+use Rattle.slots.specs.declared.StepAnswer.{StepAnswer}
+use Rattle.slots.specs.Search.{search}
+use Rattle.slots.specs.Said.{saidOfStep, tallyOf, foundOf}
+use Rattle.slots.proofs.Tally as Y
+use Rattle.slots.proofs.Tally.Laws as Y′
+use Rattle.slots.proofs.Found as F
+use Rattle.slots.proofs.Found.Laws as F′
+use Rattle.slots.proofs.StepAnswer as S
+use Rattle.slots.proofs.StepAnswer.Laws as S′
+use Rattle.answer.specs.declared.ReplayAnswer.{ReplayAnswer}
+use Rattle.answer.specs.Answers.{said, isTaken}
+use Rattle.answer.proofs.ReplayAnswer as B
+use Rattle.answer.proofs.ReplayAnswer.Laws as B′
 use Rattle.row.proofs.Cells.{fv}
 use Rattle.replay.proofs.Values.{tally-val, step-val, answer-val, verdict-val, node-val}
-use Rattle.step.proofs.answer.nothing as nothing′
-use Rattle.step.proofs.answer.nothing.Symbol.{name as #nothing}
-use Rattle.step.proofs.answer.is_taken as taken′
-use Rattle.step.proofs.answer.is_taken.Symbol.{name as #taken}
-use Rattle.step.proofs.answer.stopped as stopped′
-use Rattle.step.proofs.answer.stopped.Symbol.{name as #stopped}
-use Rattle.step.proofs.answer.last_of as last′
-use Rattle.step.proofs.answer.last_of.Symbol.{name as #last}
-use Rattle.step.proofs.answer.end as end′
-use Rattle.step.proofs.answer.end.Symbol.{name as #end}
-use Rattle.step.proofs.answer.passes as passes′
-use Rattle.step.proofs.answer.passes.Symbol.{name as #passes}
-use Rattle.step.proofs.answer.refused as refused′
-use Rattle.step.proofs.answer.refused.Symbol.{name as #refused}
+use Rattle.answer.proofs.nothing as nothing′
+use Rattle.answer.proofs.nothing.Symbol.{name as #nothing}
+use Rattle.answer.proofs.is_taken as taken′
+use Rattle.answer.proofs.is_taken.Symbol.{name as #taken}
+use Rattle.answer.proofs.stopped as stopped′
+use Rattle.answer.proofs.stopped.Symbol.{name as #stopped}
+use Rattle.answer.proofs.last_of as last′
+use Rattle.answer.proofs.last_of.Symbol.{name as #last}
+use Rattle.answer.proofs.end as end′
+use Rattle.answer.proofs.end.Symbol.{name as #end}
+use Rattle.answer.proofs.passes as passes′
+use Rattle.answer.proofs.passes.Symbol.{name as #passes}
+use Rattle.answer.proofs.refused as refused′
+use Rattle.answer.proofs.refused.Symbol.{name as #refused}
 
 module _ {M : Type 1} (𝓤 : URA M) (H : Heap 𝓤) (A : Atoms 𝓤) (mem : Memory → SProp 𝓤) (run : Routine → Fun 𝓤) where
   abbrev pub Nothing : Contract 𝓤

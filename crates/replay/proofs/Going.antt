@@ -16,7 +16,7 @@ use Rattle.replaying.specs.Slots.{Slot}
 use Rattle.replaying.specs.Step.{Tally, tally, State, state, Step, taken, unfit, Stepped, stepped, oneStep, refused as step-refused}
 use Rattle.replaying.specs.Replay.{Answer, run, refused, ending}
 use Rattle.replaying.proofs.Steps.{Within, step-goes-on, step-refuses, step-fits}
-use Rattle.step.specs.Answers.{isTaken}
+use Rattle.answer.specs.Answers.{isTaken}
 
 -- after k records the tally is within, and the run goes on from the state then
 pub record Goes (rules sheet : List ℕ) (s₀ : State) (k : ℕ) (s : State) : Type 0 where

@@ -6,9 +6,9 @@ use mathlib.Core.List.{List, _∷_}
 use lib.ListN.{length, replicate, length-replicate}
 use denote.Slice.{Room}
 use Rattle.replaying.specs.Slots.{Slot as RowSlot}
-use Rattle.step.specs.Said.{slotOf, rowOf}
-use Rattle.step.specs.declared.Slot.{Slot}
-use Rattle.step.proofs.Slot as T
+use Rattle.slots.specs.Said.{slotOf, rowOf}
+use Rattle.slots.specs.declared.Slot.{Slot}
+use Rattle.slots.proofs.Slot as T
 
 pub row-replicate : (n : ℕ) (s : Slot) → rowOf (replicate n s) ≡ replicate n (slotOf s)
 unfolding rowOf

@@ -45,14 +45,14 @@ use Rattle.sheet.specs.Editions.{narrow}
 use Rattle.sheet.proofs.RecordNo as R
 use Rattle.sheet.proofs.RecordNo.Laws as R′
 use Rattle.replaying.specs.Step.{state, stepped, oneStep}
-use Rattle.step.specs.declared.Slot.{Slot}
-use Rattle.step.specs.declared.Tally.{Tally}
-use Rattle.step.specs.declared.StepAnswer.{StepAnswer}
-use Rattle.step.specs.Said.{saidOfStep, tallyOf, rowOf}
-use Rattle.step.proofs.Slot as T
-use Rattle.step.proofs.Tally as Y
-use Rattle.step.proofs.StepAnswer as S
-use Rattle.step.proofs.StepAnswer.Laws as S′
+use Rattle.slots.specs.declared.Slot.{Slot}
+use Rattle.slots.specs.declared.Tally.{Tally}
+use Rattle.slots.specs.declared.StepAnswer.{StepAnswer}
+use Rattle.slots.specs.Said.{saidOfStep, tallyOf, rowOf}
+use Rattle.slots.proofs.Slot as T
+use Rattle.slots.proofs.Tally as Y
+use Rattle.slots.proofs.StepAnswer as S
+use Rattle.slots.proofs.StepAnswer.Laws as S′
 use Rattle.replay.proofs.Going.{lent, at-inside, number-fits}
 use Rattle.replay.proofs.Values.{step-val, record-val}
 use Rattle.replay.proofs.step as step

@@ -6,14 +6,14 @@ use Rattle.sheet.specs.Reasons.{numberOf}
 use Rattle.sheet.proofs.Reasons.{numberOf-injective}
 use Rattle.replaying.specs.Step.{state, Stepped, stepped}
 use Rattle.replaying.specs.Replay.{Outcome, outcome}
-use Rattle.step.specs.declared.Slot.{Slot as CodeSlot}
-use Rattle.step.specs.declared.Tally.{Tally as CodeTally}
-use Rattle.step.specs.declared.StepAnswer.{StepAnswer}
-use Rattle.step.specs.declared.StepAnswer.the-variants as S
-use Rattle.step.specs.Said.{slotOf, rowOf, tallyOf, saidOfStep}
-use Rattle.step.specs.declared.answer.ReplayAnswer.{ReplayAnswer}
-use Rattle.step.specs.declared.answer.ReplayAnswer.the-variants as A
-use Rattle.step.specs.Answers.{said}
+use Rattle.slots.specs.declared.Slot.{Slot as CodeSlot}
+use Rattle.slots.specs.declared.Tally.{Tally as CodeTally}
+use Rattle.slots.specs.declared.StepAnswer.{StepAnswer}
+use Rattle.slots.specs.declared.StepAnswer.the-variants as S
+use Rattle.slots.specs.Said.{slotOf, rowOf, tallyOf, saidOfStep}
+use Rattle.answer.specs.declared.ReplayAnswer.{ReplayAnswer}
+use Rattle.answer.specs.declared.ReplayAnswer.the-variants as A
+use Rattle.answer.specs.Answers.{said}
 
 pub said-injective : (r₁ r₂ : ReplayAnswer) → said r₁ ≡ said r₂ → r₁ ≡ r₂
 unfolding said

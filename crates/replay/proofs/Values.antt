@@ -13,24 +13,24 @@ use Rattle.sheet.proofs.RecordNo as R
 use Rattle.sheet.proofs.RecordNo.Laws as R′
 use Rattle.sheet.proofs.Verdict as J
 use Rattle.sheet.proofs.Verdict.Laws as J′
-use Rattle.step.specs.declared.Tally.{Tally}
-use Rattle.step.specs.declared.Decided.{Decided}
-use Rattle.step.specs.declared.Sought.the-variants.{Free, Node}
-use Rattle.step.specs.declared.StepAnswer.{StepAnswer}
-use Rattle.step.specs.declared.check.Names.{Names}
-use Rattle.step.proofs.Tally as Y
-use Rattle.step.proofs.Tally.Laws as Y′
-use Rattle.step.proofs.Decided as D
-use Rattle.step.proofs.Decided.Laws as D′
-use Rattle.step.proofs.Sought as K
-use Rattle.step.proofs.Sought.Laws as K′
-use Rattle.step.proofs.StepAnswer as S
-use Rattle.step.proofs.StepAnswer.Laws as S′
-use Rattle.step.proofs.check.Names as P
-use Rattle.step.proofs.check.Names.Laws as P′
-use Rattle.step.specs.declared.answer.ReplayAnswer.{ReplayAnswer}
-use Rattle.step.proofs.answer.ReplayAnswer as B
-use Rattle.step.proofs.answer.ReplayAnswer.Laws as B′
+use Rattle.slots.specs.declared.Tally.{Tally}
+use Rattle.slots.specs.declared.Decided.{Decided}
+use Rattle.slots.specs.declared.Sought.the-variants.{Free, Node}
+use Rattle.slots.specs.declared.StepAnswer.{StepAnswer}
+use Rattle.slots.specs.declared.Names.{Names}
+use Rattle.slots.proofs.Tally as Y
+use Rattle.slots.proofs.Tally.Laws as Y′
+use Rattle.slots.proofs.Decided as D
+use Rattle.slots.proofs.Decided.Laws as D′
+use Rattle.slots.proofs.Sought as K
+use Rattle.slots.proofs.Sought.Laws as K′
+use Rattle.slots.proofs.StepAnswer as S
+use Rattle.slots.proofs.StepAnswer.Laws as S′
+use Rattle.slots.proofs.Names as P
+use Rattle.slots.proofs.Names.Laws as P′
+use Rattle.answer.specs.declared.ReplayAnswer.{ReplayAnswer}
+use Rattle.answer.proofs.ReplayAnswer as B
+use Rattle.answer.proofs.ReplayAnswer.Laws as B′
 use Rattle.row.proofs.Cells.{gv}
 
 abbrev pub tally-val : Tally → Val

@@ -13,9 +13,9 @@ use Rattle.sheet.specs.Checks.{checkLengths}
 use Rattle.replaying.specs.Slots.{Slot as RowSlot, empty, cleared}
 use Rattle.replaying.specs.Step.{state, tally, passes}
 use Rattle.replaying.specs.Replay.{Answer, refused, run, start, outcome, byLengths, replay}
-use Rattle.step.specs.declared.Slot.{Slot}
-use Rattle.step.specs.Said.{rowOf}
-use Rattle.step.proofs.Rows.{row-length}
+use Rattle.slots.specs.declared.Slot.{Slot}
+use Rattle.slots.specs.Said.{rowOf}
+use Rattle.slots.proofs.Rows.{row-length}
 
 pub fine-is : (v : Verdict) → passes v ≡ true → v ≡ Fine
 unfolding passes

@@ -3,14 +3,13 @@ ghost use mathlib.Core.Path.{_≡_};
 ghost use Rattle.sheet.specs.Editions.{narrow};
 ghost use Rattle.replaying.specs.Step.{state, stepped, oneStep};
 ghost use Rattle.replaying.specs.Replay.{outcome, replay};
-ghost use Rattle.step.specs.Said.{saidOfStep, tallyOf, rowOf};
-ghost use Rattle.step.specs.Answers.{said};
+ghost use Rattle.slots.specs.Said.{saidOfStep, tallyOf, rowOf};
+ghost use Rattle.answer.specs.Answers.{said};
 use sheet::RecordNo;
-use step::Slot;
-use step::Sought;
-use step::StepAnswer;
-use step::Tally;
-use step::answer;
+use slots::Slot;
+use slots::Sought;
+use slots::StepAnswer;
+use slots::Tally;
 
 pub mod own;
 pub mod run;
@@ -25,12 +24,12 @@ pub fn step(
 ) -> StepAnswer
     ensures { λ r. ⌜ stepped (saidOfStep r) (state (tallyOf (now (tally .exit))) (rowOf (now (slots .exit)))) ≡ oneStep narrow (now (rules .entry)) (now (bytes .entry)) (number .0) (state (tallyOf (now (tally .entry))) (rowOf (now (slots .entry)))) ⌝ }
 {
-    let names = step::names_read(bytes);
+    let names = decide::names_read(bytes);
     let left = row::find(slots, Sought::Node(names.left));
     let right = row::find(slots, Sought::Node(names.right));
     let vacant = row::find(slots, Sought::Free);
     let count = slots.len();
-    let decided = step::decide(*tally, rules, bytes, number, left, right, vacant, count);
+    let decided = decide::decide(*tally, rules, bytes, number, left, right, vacant, count);
     row::put(slots, decided.at, decided.slot);
     *tally = decided.tally;
     decided.answer

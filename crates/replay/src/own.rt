@@ -6,8 +6,8 @@ ghost use lib.ListN.{replicate};
 ghost use Rattle.sheet.specs.Editions.{narrow};
 ghost use Rattle.replaying.specs.Slots.{empty};
 ghost use Rattle.replaying.specs.Replay.{replay};
-ghost use Rattle.step.specs.Answers.{said};
-use step::answer::ReplayAnswer;
+ghost use Rattle.answer.specs.Answers.{said};
+use answer::ReplayAnswer;
 
 // At most 1,023.
 pub fn enough(slots: usize) -> usize
@@ -19,7 +19,7 @@ pub fn enough(slots: usize) -> usize
 pub fn replay_in(sheet: &[u8], rules: &[u8], slots: usize) -> ReplayAnswer
     ensures { λ r. ⌜ said r ≡ replay narrow (now (sheet .entry)) (now (rules .entry)) (replicate slots empty) .answer ⌝ }
 {
-    let none = step::empty();
+    let none = slots::empty();
     let mut row = [none; 1023];
     let n = enough(slots);
     crate::replay(sheet, rules, &mut row[..n])

@@ -7,13 +7,12 @@ ghost use Rattle.sheet.specs.Editions.{narrow, replayRecords};
 ghost use Rattle.sheet.specs.Checks.{checkLengths};
 ghost use Rattle.replaying.specs.Step.{tally, state};
 ghost use Rattle.replaying.specs.Replay.{run};
-ghost use Rattle.step.specs.Said.{rowOf};
-ghost use Rattle.step.specs.Answers.{said};
+ghost use Rattle.slots.specs.Said.{rowOf};
+ghost use Rattle.answer.specs.Answers.{said};
 use sheet::RecordNo;
-use step::Slot;
-use step::Sought;
-use step::answer;
-use step::answer::ReplayAnswer;
+use slots::Slot;
+use slots::Sought;
+use answer::ReplayAnswer;
 
 pub fn run(sheet: &[u8], rules: &[u8], slots: &mut [Slot]) -> ReplayAnswer
     requires { ⌜ checkLengths narrow (replayRecords narrow) (length (now sheet)) (length (now rules)) ≡ Fine ⌝ }

@@ -11,10 +11,10 @@ use Rattle.press.specs.declared.Pressed.{Pressed}
 use Rattle.press.specs.declared.PressAnswer.{PressAnswer}
 use Rattle.press.specs.declared.PressAnswer.the-variants.{Accepted, Refused}
 use Rattle.press.specs.Said.{said}
-use Rattle.step.specs.declared.answer.Replayed.{Replayed}
-use Rattle.step.specs.declared.answer.ReplayAnswer.{ReplayAnswer}
-use Rattle.step.specs.declared.answer.ReplayAnswer.the-variants as A
-use Rattle.step.specs.Answers.{said as said-of-replay}
+use Rattle.answer.specs.declared.Replayed.{Replayed}
+use Rattle.answer.specs.declared.ReplayAnswer.{ReplayAnswer}
+use Rattle.answer.specs.declared.ReplayAnswer.the-variants as A
+use Rattle.answer.specs.Answers.{said as said-of-replay}
 use Rattle.report.specs.Report.{fill, pressCode, pressWords, replayCode, replayWords}
 
 pub four-filled : (i j k l a b c d : ℕ) (r r₁ r₂ r₃ r₄ : List ℕ) → j ≡ i + 1 → k ≡ i + 2 → l ≡ i + 3

@@ -4,10 +4,10 @@ ghost use mathlib.Core.List.{[], _∷_};
 ghost use Prim.Native.Nat.{_<_};
 ghost use lib.ListN.{set};
 ghost use Rattle.press.specs.Said.{said};
-ghost use Rattle.step.specs.Answers.{said as saidOfReplay};
+ghost use Rattle.answer.specs.Answers.{said as saidOfReplay};
 ghost use Rattle.report.specs.Report.{fill, pressCode, pressWords, replayCode, replayWords};
 use press::PressAnswer;
-use step::answer::ReplayAnswer;
+use answer::ReplayAnswer;
 
 // A word of the report, where there is room for it.
 fn put(report: &mut [u64], i: usize, word: u64)

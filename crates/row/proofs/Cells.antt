@@ -12,16 +12,16 @@ use Rattle.replaying.specs.Slots.{empty}
 use Rattle.sheet.specs.declared.SlotNo.{SlotNo}
 use Rattle.sheet.proofs.SlotNo as N
 use Rattle.sheet.proofs.SlotNo.Laws as N′
-use Rattle.step.specs.Said.{slotOf}
-use Rattle.step.specs.declared.Slot.{Slot}
-use Rattle.step.specs.declared.Found.{Found}
-use Rattle.step.specs.declared.Sought.{Sought}
-use Rattle.step.proofs.Slot as T
-use Rattle.step.proofs.Slot.Laws as T′
-use Rattle.step.proofs.Found as F
-use Rattle.step.proofs.Found.Laws as F′
-use Rattle.step.proofs.Sought as G
-use Rattle.step.proofs.Sought.Laws as G′
+use Rattle.slots.specs.Said.{slotOf}
+use Rattle.slots.specs.declared.Slot.{Slot}
+use Rattle.slots.specs.declared.Found.{Found}
+use Rattle.slots.specs.declared.Sought.{Sought}
+use Rattle.slots.proofs.Slot as T
+use Rattle.slots.proofs.Slot.Laws as T′
+use Rattle.slots.proofs.Found as F
+use Rattle.slots.proofs.Found.Laws as F′
+use Rattle.slots.proofs.Sought as G
+use Rattle.slots.proofs.Sought.Laws as G′
 
 -- the machine values of a slot, of its number, of what is sought and of what is found
 abbrev pub sv : Slot → Val

@@ -42,18 +42,18 @@ use Rattle.replaying.specs.Slots.{empty, cleared}
 use Rattle.sheet.specs.declared.SlotNo.{SlotNo}
 use Rattle.sheet.proofs.SlotNo as N
 use Rattle.sheet.proofs.SlotNo.Laws as N′
-use Rattle.step.specs.Search.{search as look-for}
-use Rattle.step.specs.Said.{slotOf, rowOf, soughtIn, foundOf}
-use Rattle.step.specs.declared.Slot.{Slot}
-use Rattle.step.specs.declared.Found.{Found}
-use Rattle.step.specs.declared.Sought.{Sought}
-use Rattle.step.proofs.Slot as T
-use Rattle.step.proofs.Slot.Laws as T′
-use Rattle.step.proofs.Found as F
-use Rattle.step.proofs.Found.Laws as F′
-use Rattle.step.proofs.Sought as G
-use Rattle.step.proofs.Sought.Laws as G′
-use Rattle.step.proofs.empty as empty′
+use Rattle.slots.specs.Search.{search as look-for}
+use Rattle.slots.specs.Said.{slotOf, rowOf, soughtIn, foundOf}
+use Rattle.slots.specs.declared.Slot.{Slot}
+use Rattle.slots.specs.declared.Found.{Found}
+use Rattle.slots.specs.declared.Sought.{Sought}
+use Rattle.slots.proofs.Slot as T
+use Rattle.slots.proofs.Slot.Laws as T′
+use Rattle.slots.proofs.Found as F
+use Rattle.slots.proofs.Found.Laws as F′
+use Rattle.slots.proofs.Sought as G
+use Rattle.slots.proofs.Sought.Laws as G′
+use Rattle.slots.proofs.empty as empty′
 pub use Rattle.row.proofs.Cells.{sv, nv, gv, fv}
 use Rattle.lending.proofs.Rows.{rows, lend-row, row-back, share-row, unshare-row}
 use Rattle.row.proofs.find as find

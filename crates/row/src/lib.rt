@@ -2,12 +2,12 @@
 ghost use mathlib.Core.Path.{_≡_};
 ghost use lib.ListN.{length, set, getD};
 ghost use Rattle.replaying.specs.Slots.{empty, cleared};
-ghost use Rattle.step.specs.Search.{search};
-ghost use Rattle.step.specs.Said.{slotOf, rowOf, soughtIn, foundOf};
+ghost use Rattle.slots.specs.Search.{search};
+ghost use Rattle.slots.specs.Said.{slotOf, rowOf, soughtIn, foundOf};
 use sheet::SlotNo;
-use step::Found;
-use step::Slot;
-use step::Sought;
+use slots::Found;
+use slots::Slot;
+use slots::Sought;
 
 // The first slot that is the one sought.
 pub fn find(slots: &[Slot], sought: Sought) -> Found
@@ -16,7 +16,7 @@ pub fn find(slots: &[Slot], sought: Sought) -> Found
     let mut i = 0;
     while i < slots.len() {
         let slot = slots[i];
-        if step::is_sought(slot, sought) {
+        if slots::is_sought(slot, sought) {
             return Found {
                 at: SlotNo(i),
                 slot,
@@ -26,7 +26,7 @@ pub fn find(slots: &[Slot], sought: Sought) -> Found
     }
     Found {
         at: SlotNo(i),
-        slot: step::empty(),
+        slot: slots::empty(),
     }
 }
 
@@ -38,7 +38,7 @@ pub fn slot_at(slots: &[Slot], at: SlotNo) -> Slot
     if i < slots.len() {
         return slots[i];
     }
-    step::empty()
+    slots::empty()
 }
 
 // A slot is overwritten whole; past the row nothing is.
@@ -55,7 +55,7 @@ pub fn put(slots: &mut [Slot], at: SlotNo, slot: Slot)
 pub fn free(slots: &mut [Slot], at: SlotNo)
     ensures { λ _. ⌜ rowOf (now (slots .exit)) ≡ set (rowOf (now (slots .entry))) (at .0) empty ⌝ }
 {
-    put(slots, at, step::empty());
+    put(slots, at, slots::empty());
 }
 
 // Every slot freed.

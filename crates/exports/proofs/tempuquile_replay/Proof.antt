@@ -39,13 +39,13 @@ use Rattle.lending.proofs.Facts.{one, also, says-all}
 use Rattle.lending.proofs.Rows.{rows, freed}
 use Rattle.sheet.specs.Editions.{narrow}
 use Rattle.replaying.specs.Replay.{outcome, replay as replayed}
-use Rattle.step.specs.declared.Slot.{Slot}
-use Rattle.step.specs.Said.{rowOf}
-use Rattle.step.proofs.Slot as T
-use Rattle.step.specs.declared.answer.ReplayAnswer.{ReplayAnswer}
-use Rattle.step.specs.Answers.{said}
-use Rattle.step.proofs.answer.ReplayAnswer as B
-use Rattle.step.proofs.answer.ReplayAnswer.Laws as B′
+use Rattle.slots.specs.declared.Slot.{Slot}
+use Rattle.slots.specs.Said.{rowOf}
+use Rattle.slots.proofs.Slot as T
+use Rattle.answer.specs.declared.ReplayAnswer.{ReplayAnswer}
+use Rattle.answer.specs.Answers.{said}
+use Rattle.answer.proofs.ReplayAnswer as B
+use Rattle.answer.proofs.ReplayAnswer.Laws as B′
 use Rattle.replay.proofs.replay as replay′
 use Rattle.replay.proofs.replay.Symbol as replay-def
 use Rattle.replay.proofs.replay.Symbol.{name as #replay}

@@ -43,14 +43,14 @@ use denote.Exit.{yes}
 use Rattle.sheet.specs.Editions.{narrow}
 use Rattle.replaying.specs.Slots.{empty, Slot as RowSlot}
 use Rattle.replaying.specs.Step.{state, tally}
-use Rattle.step.specs.Said.{slotOf, rowOf}
-use Rattle.step.specs.declared.Slot.{Slot}
-use Rattle.step.proofs.Slot as T
-use Rattle.step.proofs.Slot.Laws as T′
-use Rattle.step.proofs.empty as empty′
-use Rattle.step.proofs.empty.Symbol as empty-def
-use Rattle.step.proofs.empty.Symbol.{name as #empty}
-use Rattle.step.proofs.empty.Met as empty-thm
+use Rattle.slots.specs.Said.{slotOf, rowOf}
+use Rattle.slots.specs.declared.Slot.{Slot}
+use Rattle.slots.proofs.Slot as T
+use Rattle.slots.proofs.Slot.Laws as T′
+use Rattle.slots.proofs.empty as empty′
+use Rattle.slots.proofs.empty.Symbol as empty-def
+use Rattle.slots.proofs.empty.Symbol.{name as #empty}
+use Rattle.slots.proofs.empty.Met as empty-thm
 use Rattle.lending.proofs.Arrays.{repeat-is, array-part, part-array}
 use Rattle.lending.proofs.Calls.{call-plain}
 use Rattle.lending.proofs.Leaving.{lays, leaves}
@@ -164,6 +164,6 @@ look-after-spec 𝓤 H 𝓜 𝓖 𝓡 =
     entered 𝓤 H (tripleOf 𝓤 H (𝓖 .A) f.signature (f.spec 𝓤 H (𝓖 .A) (𝓜 .mem) (𝓡 .run)))
     (tables 𝓤 H 𝓜 𝓡 code.env .C) (tables 𝓤 H 𝓜 𝓡 code.env .Λ) #key code.function (code.unfolded 𝓤 H 𝓜 𝓡)
     (meets 𝓤 H (𝓖 .A) (givenOf 𝓤 H 𝓜 𝓖) (𝓜 .mem) (𝓡 .run) (tablesOf 𝓤 H 𝓜 (tables 𝓤 H 𝓜 𝓡 code.env))
-    (cited 𝓤 H (Empty 𝓤 H (𝓖 .A) (𝓜 .mem) (𝓡 .run)) 𝓜 𝓡 code.env #empty empty-def.routine code.calls-step·empty (empty-thm.met 𝓤 H 𝓜 𝓖 𝓡))
+    (cited 𝓤 H (Empty 𝓤 H (𝓖 .A) (𝓜 .mem) (𝓡 .run)) 𝓜 𝓡 code.env #empty empty-def.routine code.calls-slots·empty (empty-thm.met 𝓤 H 𝓜 𝓖 𝓡))
     (cited 𝓤 H (Enough 𝓤 H (𝓖 .A) (𝓜 .mem) (𝓡 .run)) 𝓜 𝓡 code.env #enough enough-def.routine code.calls-replay·own·enough (enough-thm.met 𝓤 H 𝓜 𝓖 𝓡))
     (cited 𝓤 H (From 𝓤 H (𝓖 .A) (𝓜 .mem) (𝓡 .run)) 𝓜 𝓡 code.env #look-from from-def.routine code.calls-look·look-from (from-thm.met 𝓤 H 𝓜 𝓖 𝓡)))

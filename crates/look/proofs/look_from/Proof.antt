@@ -60,16 +60,16 @@ use Rattle.sheet.proofs.SlotNo as N
 use Rattle.sheet.proofs.SlotNo.Laws as N′
 use Rattle.replaying.specs.Slots.{empty, Slot as RowSlot}
 use Rattle.replaying.specs.Step.{State, state, tally, taken, Step as Stands, Stepped, stepped, oneStep}
-use Rattle.step.specs.declared.Slot.{Slot}
-use Rattle.step.specs.declared.Tally.{Tally}
-use Rattle.step.specs.declared.StepAnswer.{StepAnswer}
-use Rattle.step.specs.Said.{saidOfStep, tallyOf, slotOf, rowOf}
-use Rattle.step.proofs.Slot as T
-use Rattle.step.proofs.Slot.Laws as T′
-use Rattle.step.proofs.Tally as Y
-use Rattle.step.proofs.Tally.Laws as Y′
-use Rattle.step.proofs.StepAnswer as S
-use Rattle.step.proofs.StepAnswer.Laws as S′
+use Rattle.slots.specs.declared.Slot.{Slot}
+use Rattle.slots.specs.declared.Tally.{Tally}
+use Rattle.slots.specs.declared.StepAnswer.{StepAnswer}
+use Rattle.slots.specs.Said.{saidOfStep, tallyOf, slotOf, rowOf}
+use Rattle.slots.proofs.Slot as T
+use Rattle.slots.proofs.Slot.Laws as T′
+use Rattle.slots.proofs.Tally as Y
+use Rattle.slots.proofs.Tally.Laws as Y′
+use Rattle.slots.proofs.StepAnswer as S
+use Rattle.slots.proofs.StepAnswer.Laws as S′
 use Rattle.look.specs.declared.Look.{Look}
 use Rattle.look.specs.After.{afterRecords, lookAt, lookOf}
 use Rattle.look.specs.After.{look as looks}
@@ -89,9 +89,9 @@ use Rattle.look.proofs.untried as untried′
 use Rattle.look.proofs.untried.Symbol as untried-def
 use Rattle.look.proofs.untried.Symbol.{name as #untried}
 use Rattle.look.proofs.untried.Met as untried-thm
-use Rattle.step.proofs.answer.nothing.Symbol as nothing-def
-use Rattle.step.proofs.answer.nothing.Symbol.{name as #nothing}
-use Rattle.step.proofs.answer.nothing.Met as nothing-thm
+use Rattle.answer.proofs.nothing.Symbol as nothing-def
+use Rattle.answer.proofs.nothing.Symbol.{name as #nothing}
+use Rattle.answer.proofs.nothing.Met as nothing-thm
 use Rattle.replay.proofs.step.Symbol as step-def
 use Rattle.replay.proofs.step.Symbol.{name as #step}
 use Rattle.replay.proofs.step.Met as step-thm
@@ -317,7 +317,7 @@ look-from-spec 𝓤 H 𝓜 𝓖 𝓡 =
     (record {
       upto = cited 𝓤 H (Upto-of 𝓤 H (𝓖 .A) (𝓜 .mem) (𝓡 .run)) 𝓜 𝓡 code.env #upto upto-def.routine code.calls-look·upto (upto-thm.met 𝓤 H 𝓜 𝓖 𝓡);
       untried = cited 𝓤 H (Untried 𝓤 H (𝓖 .A) (𝓜 .mem) (𝓡 .run)) 𝓜 𝓡 code.env #untried untried-def.routine code.calls-look·untried (untried-thm.met 𝓤 H 𝓜 𝓖 𝓡);
-      nothing = cited 𝓤 H (Nothing 𝓤 H (𝓖 .A) (𝓜 .mem) (𝓡 .run)) 𝓜 𝓡 code.env #nothing nothing-def.routine code.calls-step·answer·nothing (nothing-thm.met 𝓤 H 𝓜 𝓖 𝓡);
+      nothing = cited 𝓤 H (Nothing 𝓤 H (𝓖 .A) (𝓜 .mem) (𝓡 .run)) 𝓜 𝓡 code.env #nothing nothing-def.routine code.calls-answer·nothing (nothing-thm.met 𝓤 H 𝓜 𝓖 𝓡);
       step = cited 𝓤 H (Step 𝓤 H (𝓖 .A) (𝓜 .mem) (𝓡 .run)) 𝓜 𝓡 code.env #step step-def.routine code.calls-replay·step (step-thm.met 𝓤 H 𝓜 𝓖 𝓡);
       slot-at = cited 𝓤 H (Slot-at 𝓤 H (𝓖 .A) (𝓜 .mem) (𝓡 .run)) 𝓜 𝓡 code.env #slot-at slot-at-def.routine code.calls-row·slot-at (slot-at-thm.met 𝓤 H 𝓜 𝓖 𝓡);
     }))

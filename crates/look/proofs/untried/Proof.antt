@@ -1,5 +1,5 @@
 use mathlib.Core.Path.{refl}
-use Rattle.step.specs.Said.{saidOfStep}
+use Rattle.slots.specs.Said.{saidOfStep}
 use Rattle.look.proofs.untried.Statement.{statement}
 use Rattle.look.proofs.untried.Tie as tie
 

@@ -56,23 +56,23 @@ use Rattle.checks.proofs.check_lengths.Symbol.{name as #lengths}
 use Rattle.checks.proofs.check_lengths.Met as lengths-thm
 use Rattle.replaying.specs.Step.{state, tally, passes}
 use Rattle.replaying.specs.Replay.{refused, outcome, replay, run as runs-to}
-use Rattle.step.specs.declared.Slot.{Slot}
-use Rattle.step.specs.Said.{rowOf}
-use Rattle.step.proofs.Slot as T
-use Rattle.step.specs.declared.answer.ReplayAnswer.{ReplayAnswer}
-use Rattle.step.specs.Answers.{said}
-use Rattle.step.proofs.answer.ReplayAnswer as B
-use Rattle.step.proofs.answer.ReplayAnswer.Laws as B′
+use Rattle.slots.specs.declared.Slot.{Slot}
+use Rattle.slots.specs.Said.{rowOf}
+use Rattle.slots.proofs.Slot as T
+use Rattle.answer.specs.declared.ReplayAnswer.{ReplayAnswer}
+use Rattle.answer.specs.Answers.{said}
+use Rattle.answer.proofs.ReplayAnswer as B
+use Rattle.answer.proofs.ReplayAnswer.Laws as B′
 use Rattle.replay.proofs.Values.{answer-val, verdict-val}
 use Rattle.row.proofs.Prims.{Clear, call-clear}
 use Rattle.replay.proofs.Answers.{Passes, Refuses, call-passes, call-refused}
 use Rattle.replay.proofs.Whole.{cleared-length, fine-is, comes-fine, comes-refused}
-use Rattle.step.proofs.answer.passes.Symbol as passes-def
-use Rattle.step.proofs.answer.passes.Symbol.{name as #passes}
-use Rattle.step.proofs.answer.passes.Met as passes-thm
-use Rattle.step.proofs.answer.refused.Symbol as refused-def
-use Rattle.step.proofs.answer.refused.Symbol.{name as #refused}
-use Rattle.step.proofs.answer.refused.Met as refused-thm
+use Rattle.answer.proofs.passes.Symbol as passes-def
+use Rattle.answer.proofs.passes.Symbol.{name as #passes}
+use Rattle.answer.proofs.passes.Met as passes-thm
+use Rattle.answer.proofs.refused.Symbol as refused-def
+use Rattle.answer.proofs.refused.Symbol.{name as #refused}
+use Rattle.answer.proofs.refused.Met as refused-thm
 use Rattle.row.proofs.clear.Symbol as clear-def
 use Rattle.row.proofs.clear.Symbol.{name as #clear}
 use Rattle.row.proofs.clear.Met as clear-thm
@@ -207,8 +207,8 @@ replay-spec 𝓤 H 𝓜 𝓖 𝓡 =
     (meets 𝓤 H (𝓖 .A) (givenOf 𝓤 H 𝓜 𝓖) (𝓜 .mem) (𝓡 .run) (tablesOf 𝓤 H 𝓜 (tables 𝓤 H 𝓜 𝓡 code.env))
     (record {
       lengths = cited 𝓤 H (Lengths 𝓤 H (𝓖 .A) (𝓜 .mem) (𝓡 .run)) 𝓜 𝓡 code.env #lengths lengths-def.routine code.calls-checks·check-lengths (lengths-thm.met 𝓤 H 𝓜 𝓖 𝓡);
-      passes = cited 𝓤 H (Passes 𝓤 H (𝓖 .A) (𝓜 .mem) (𝓡 .run)) 𝓜 𝓡 code.env #passes passes-def.routine code.calls-step·answer·passes (passes-thm.met 𝓤 H 𝓜 𝓖 𝓡);
+      passes = cited 𝓤 H (Passes 𝓤 H (𝓖 .A) (𝓜 .mem) (𝓡 .run)) 𝓜 𝓡 code.env #passes passes-def.routine code.calls-answer·passes (passes-thm.met 𝓤 H 𝓜 𝓖 𝓡);
       clear = cited 𝓤 H (Clear 𝓤 H (𝓖 .A) (𝓜 .mem) (𝓡 .run)) 𝓜 𝓡 code.env #clear clear-def.routine code.calls-row·clear (clear-thm.met 𝓤 H 𝓜 𝓖 𝓡);
       runs-it = cited 𝓤 H (Run 𝓤 H (𝓖 .A) (𝓜 .mem) (𝓡 .run)) 𝓜 𝓡 code.env #run run-def.routine code.calls-replay·run·run (run-thm.met 𝓤 H 𝓜 𝓖 𝓡);
-      refused = cited 𝓤 H (Refuses 𝓤 H (𝓖 .A) (𝓜 .mem) (𝓡 .run)) 𝓜 𝓡 code.env #refused refused-def.routine code.calls-step·answer·refused (refused-thm.met 𝓤 H 𝓜 𝓖 𝓡);
+      refused = cited 𝓤 H (Refuses 𝓤 H (𝓖 .A) (𝓜 .mem) (𝓡 .run)) 𝓜 𝓡 code.env #refused refused-def.routine code.calls-answer·refused (refused-thm.met 𝓤 H 𝓜 𝓖 𝓡);
     }))

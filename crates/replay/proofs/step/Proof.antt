@@ -55,36 +55,36 @@ use Rattle.sheet.proofs.RecordNo as R
 use Rattle.sheet.proofs.RecordNo.Laws as R′
 use Rattle.replaying.specs.Slots.{Slot as RowSlot, free, holding}
 use Rattle.replaying.specs.Step.{Names as Named, state, stepped, oneStep}
-use Rattle.step.specs.declared.Slot.{Slot}
-use Rattle.step.specs.declared.Tally.{Tally}
-use Rattle.step.specs.declared.Found.{Found}
-use Rattle.step.specs.declared.Decided.{Decided}
-use Rattle.step.specs.declared.Sought.the-variants.{Free, Node}
-use Rattle.step.specs.declared.check.Names.{Names}
-use Rattle.step.specs.Search.{search, namesRead}
-use Rattle.step.specs.Said.{saidOfStep, tallyOf, slotOf, rowOf, namesOf, soughtIn, foundOf}
-use Rattle.step.proofs.Rows.{row-length, row-set}
-use Rattle.step.proofs.Slot as T
-use Rattle.step.proofs.Tally as Y
-use Rattle.step.proofs.Tally.Laws as Y′
-use Rattle.step.proofs.Sought as K
-use Rattle.step.proofs.Sought.Laws as K′
-use Rattle.step.proofs.Found as F
-use Rattle.step.proofs.Found.Laws as F′
-use Rattle.step.proofs.Decided as D
-use Rattle.step.proofs.Decided.Laws as D′
-use Rattle.step.proofs.StepAnswer as S
-use Rattle.step.proofs.StepAnswer.Laws as S′
-use Rattle.step.proofs.check.Names as P
-use Rattle.step.proofs.check.Names.Laws as P′
-use Rattle.step.proofs.names_read as names′
-use Rattle.step.proofs.names_read.Symbol as names-def
-use Rattle.step.proofs.names_read.Symbol.{name as #names-read}
-use Rattle.step.proofs.names_read.Met as names-thm
-use Rattle.step.proofs.decide as decide′
-use Rattle.step.proofs.decide.Symbol as decide-def
-use Rattle.step.proofs.decide.Symbol.{name as #decide}
-use Rattle.step.proofs.decide.Met as decide-thm
+use Rattle.slots.specs.declared.Slot.{Slot}
+use Rattle.slots.specs.declared.Tally.{Tally}
+use Rattle.slots.specs.declared.Found.{Found}
+use Rattle.slots.specs.declared.Decided.{Decided}
+use Rattle.slots.specs.declared.Sought.the-variants.{Free, Node}
+use Rattle.slots.specs.declared.Names.{Names}
+use Rattle.slots.specs.Search.{search, namesRead}
+use Rattle.slots.specs.Said.{saidOfStep, tallyOf, slotOf, rowOf, namesOf, soughtIn, foundOf}
+use Rattle.slots.proofs.Rows.{row-length, row-set}
+use Rattle.slots.proofs.Slot as T
+use Rattle.slots.proofs.Tally as Y
+use Rattle.slots.proofs.Tally.Laws as Y′
+use Rattle.slots.proofs.Sought as K
+use Rattle.slots.proofs.Sought.Laws as K′
+use Rattle.slots.proofs.Found as F
+use Rattle.slots.proofs.Found.Laws as F′
+use Rattle.slots.proofs.Decided as D
+use Rattle.slots.proofs.Decided.Laws as D′
+use Rattle.slots.proofs.StepAnswer as S
+use Rattle.slots.proofs.StepAnswer.Laws as S′
+use Rattle.slots.proofs.Names as P
+use Rattle.slots.proofs.Names.Laws as P′
+use Rattle.decide.proofs.names_read as names′
+use Rattle.decide.proofs.names_read.Symbol as names-def
+use Rattle.decide.proofs.names_read.Symbol.{name as #names-read}
+use Rattle.decide.proofs.names_read.Met as names-thm
+use Rattle.decide.proofs.decide as decide′
+use Rattle.decide.proofs.decide.Symbol as decide-def
+use Rattle.decide.proofs.decide.Symbol.{name as #decide}
+use Rattle.decide.proofs.decide.Met as decide-thm
 use Rattle.row.proofs.Cells.{fv}
 use Rattle.replay.proofs.Values.{tally-val, decided-val, step-val, names-val, node-val, record-val, node-is, free-is}
 use Rattle.row.proofs.Prims.{Find, Put, call-find, call-put}
@@ -297,7 +297,7 @@ step-spec 𝓤 H 𝓜 𝓖 𝓡 =
     entered 𝓤 H (tripleOf 𝓤 H (𝓖 .A) f.signature (f.spec 𝓤 H (𝓖 .A) (𝓜 .mem) (𝓡 .run)))
     (tables 𝓤 H 𝓜 𝓡 code.env .C) (tables 𝓤 H 𝓜 𝓡 code.env .Λ) #key code.function (code.unfolded 𝓤 H 𝓜 𝓡)
     (meets 𝓤 H (𝓖 .A) (givenOf 𝓤 H 𝓜 𝓖) (𝓜 .mem) (𝓡 .run) (tablesOf 𝓤 H 𝓜 (tables 𝓤 H 𝓜 𝓡 code.env))
-    (cited 𝓤 H (Reads 𝓤 H (𝓖 .A) (𝓜 .mem) (𝓡 .run)) 𝓜 𝓡 code.env #names-read names-def.routine code.calls-step·names-read (names-thm.met 𝓤 H 𝓜 𝓖 𝓡))
+    (cited 𝓤 H (Reads 𝓤 H (𝓖 .A) (𝓜 .mem) (𝓡 .run)) 𝓜 𝓡 code.env #names-read names-def.routine code.calls-decide·names-read (names-thm.met 𝓤 H 𝓜 𝓖 𝓡))
     (cited 𝓤 H (Find 𝓤 H (𝓖 .A) (𝓜 .mem) (𝓡 .run)) 𝓜 𝓡 code.env #find find-def.routine code.calls-row·find (find-thm.met 𝓤 H 𝓜 𝓖 𝓡))
-    (cited 𝓤 H (Decides 𝓤 H (𝓖 .A) (𝓜 .mem) (𝓡 .run)) 𝓜 𝓡 code.env #decide decide-def.routine code.calls-step·decide (decide-thm.met 𝓤 H 𝓜 𝓖 𝓡))
+    (cited 𝓤 H (Decides 𝓤 H (𝓖 .A) (𝓜 .mem) (𝓡 .run)) 𝓜 𝓡 code.env #decide decide-def.routine code.calls-decide·decide (decide-thm.met 𝓤 H 𝓜 𝓖 𝓡))
     (cited 𝓤 H (Put 𝓤 H (𝓖 .A) (𝓜 .mem) (𝓡 .run)) 𝓜 𝓡 code.env #put put-def.routine code.calls-row·put (put-thm.met 𝓤 H 𝓜 𝓖 𝓡)))

@@ -45,10 +45,10 @@ use Rattle.replaying.specs.Slots.{empty, cleared}
 use Rattle.replaying.specs.Slots.{Slot as RowSlot}
 use Rattle.sheet.proofs.SlotNo as N
 use Rattle.sheet.proofs.SlotNo.Laws as N′
-use Rattle.step.specs.Said.{rowOf}
-use Rattle.step.specs.declared.Slot.{Slot}
-use Rattle.step.proofs.Slot as T
-use Rattle.step.proofs.Rows.{row-length}
+use Rattle.slots.specs.Said.{rowOf}
+use Rattle.slots.specs.declared.Slot.{Slot}
+use Rattle.slots.proofs.Slot as T
+use Rattle.slots.proofs.Rows.{row-length}
 use Rattle.lending.proofs.Rows.{rows, freed}
 use Rattle.lending.proofs.Locals.{envOf, localsOf, tyAt, tail}
 use Rattle.row.proofs.Cells.{nv, number, number-is}

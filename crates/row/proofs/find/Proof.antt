@@ -50,26 +50,26 @@ use denote.Exit.{yes}
 use Rattle.replaying.specs.Slots.{empty}
 use Rattle.sheet.proofs.SlotNo as N
 use Rattle.sheet.proofs.SlotNo.Laws as N′
-use Rattle.step.specs.Search.{search as look-for}
-use Rattle.step.specs.Said.{slotOf, rowOf, soughtIn, foundOf}
-use Rattle.step.specs.declared.Slot.{Slot}
-use Rattle.step.specs.declared.Found.{Found}
-use Rattle.step.specs.declared.Sought.{Sought}
-use Rattle.step.proofs.Slot as T
-use Rattle.step.proofs.Slot.Laws as T′
-use Rattle.step.proofs.Found as F
-use Rattle.step.proofs.Found.Laws as F′
-use Rattle.step.proofs.Sought as G
-use Rattle.step.proofs.Sought.Laws as G′
-use Rattle.step.proofs.Rows.{row-length, row-at, search-found, search-missing}
-use Rattle.step.proofs.is_sought as sought′
-use Rattle.step.proofs.is_sought.Symbol as sought-def
-use Rattle.step.proofs.is_sought.Symbol.{name as #is-sought}
-use Rattle.step.proofs.is_sought.Met as sought-thm
-use Rattle.step.proofs.empty as empty′
-use Rattle.step.proofs.empty.Symbol as empty-def
-use Rattle.step.proofs.empty.Symbol.{name as #empty}
-use Rattle.step.proofs.empty.Met as empty-thm
+use Rattle.slots.specs.Search.{search as look-for}
+use Rattle.slots.specs.Said.{slotOf, rowOf, soughtIn, foundOf}
+use Rattle.slots.specs.declared.Slot.{Slot}
+use Rattle.slots.specs.declared.Found.{Found}
+use Rattle.slots.specs.declared.Sought.{Sought}
+use Rattle.slots.proofs.Slot as T
+use Rattle.slots.proofs.Slot.Laws as T′
+use Rattle.slots.proofs.Found as F
+use Rattle.slots.proofs.Found.Laws as F′
+use Rattle.slots.proofs.Sought as G
+use Rattle.slots.proofs.Sought.Laws as G′
+use Rattle.slots.proofs.Rows.{row-length, row-at, search-found, search-missing}
+use Rattle.slots.proofs.is_sought as sought′
+use Rattle.slots.proofs.is_sought.Symbol as sought-def
+use Rattle.slots.proofs.is_sought.Symbol.{name as #is-sought}
+use Rattle.slots.proofs.is_sought.Met as sought-thm
+use Rattle.slots.proofs.empty as empty′
+use Rattle.slots.proofs.empty.Symbol as empty-def
+use Rattle.slots.proofs.empty.Symbol.{name as #empty}
+use Rattle.slots.proofs.empty.Met as empty-thm
 use Rattle.lending.proofs.Calls.{call-plain}
 use Rattle.lending.proofs.Rows.{rows, freed}
 use Rattle.lending.proofs.Locals.{envOf, localsOf, tail}
@@ -232,5 +232,5 @@ find-spec 𝓤 H 𝓜 𝓖 𝓡 =
     entered 𝓤 H (tripleOf 𝓤 H (𝓖 .A) f.signature (f.spec 𝓤 H (𝓖 .A) (𝓜 .mem) (𝓡 .run)))
     (tables 𝓤 H 𝓜 𝓡 code.env .C) (tables 𝓤 H 𝓜 𝓡 code.env .Λ) #key code.function (code.unfolded 𝓤 H 𝓜 𝓡)
     (meets 𝓤 H (𝓖 .A) (givenOf 𝓤 H 𝓜 𝓖) (𝓜 .mem) (𝓡 .run) (tablesOf 𝓤 H 𝓜 (tables 𝓤 H 𝓜 𝓡 code.env))
-    (cited 𝓤 H (IsSought 𝓤 H (𝓖 .A) (𝓜 .mem) (𝓡 .run)) 𝓜 𝓡 code.env #is-sought sought-def.routine code.calls-step·is-sought (sought-thm.met 𝓤 H 𝓜 𝓖 𝓡))
-    (cited 𝓤 H (Empty 𝓤 H (𝓖 .A) (𝓜 .mem) (𝓡 .run)) 𝓜 𝓡 code.env #empty empty-def.routine code.calls-step·empty (empty-thm.met 𝓤 H 𝓜 𝓖 𝓡)))
+    (cited 𝓤 H (IsSought 𝓤 H (𝓖 .A) (𝓜 .mem) (𝓡 .run)) 𝓜 𝓡 code.env #is-sought sought-def.routine code.calls-slots·is-sought (sought-thm.met 𝓤 H 𝓜 𝓖 𝓡))
+    (cited 𝓤 H (Empty 𝓤 H (𝓖 .A) (𝓜 .mem) (𝓡 .run)) 𝓜 𝓡 code.env #empty empty-def.routine code.calls-slots·empty (empty-thm.met 𝓤 H 𝓜 𝓖 𝓡)))

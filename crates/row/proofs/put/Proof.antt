@@ -40,9 +40,9 @@ use denote.Exit.{yes}
 use Rattle.sheet.specs.declared.SlotNo.{SlotNo}
 use Rattle.sheet.proofs.SlotNo as N
 use Rattle.sheet.proofs.SlotNo.Laws as N′
-use Rattle.step.specs.declared.Slot.{Slot}
-use Rattle.step.proofs.Slot as T
-use Rattle.step.proofs.Slot.Laws as T′
+use Rattle.slots.specs.declared.Slot.{Slot}
+use Rattle.slots.proofs.Slot as T
+use Rattle.slots.proofs.Slot.Laws as T′
 use Rattle.lending.proofs.Rows.{rows, freed}
 use Rattle.lending.proofs.Locals.{envOf, localsOf}
 use Rattle.row.proofs.Cells.{sv, nv, blank, mul-fits}

@@ -1,0 +1,111 @@
+// The replay's answer, and the decisions of the whole replay, on values alone.
+ghost use mathlib.Core.Path.{_≡_};
+ghost use mathlib.Core.List.{List};
+ghost use Prim.Native.Nat.{ℕ, _-_};
+ghost use lib.ListN.{length};
+ghost use Rattle.sheet.specs.Reasons.{numberOf};
+ghost use Rattle.sheet.specs.declared.Reason.{Reason};
+ghost use Rattle.sheet.specs.declared.Verdict.the-variants.{Refused};
+ghost use Rattle.replaying.specs.Slots.{Slot, holding};
+ghost use Rattle.replaying.specs.Step.{tally, state, passes};
+ghost use Rattle.replaying.specs.Step.{refused as stepRefused};
+ghost use Rattle.replaying.specs.Replay.{refused, ending};
+ghost use Rattle.slots.specs.Search.{search};
+ghost use Rattle.slots.specs.Said.{saidOfStep, tallyOf, foundOf};
+ghost use Rattle.answer.specs.Answers.{said, isTaken};
+use clause::Clause;
+use sheet::NodeNo;
+use sheet::Reason;
+use sheet::RecordNo;
+use sheet::Verdict;
+use slots::Found;
+use slots::StepAnswer;
+use slots::Tally;
+
+pub struct Replayed {
+    pub conclusion: Clause,
+    pub nodes: u16,
+    pub steps: u16,
+    pub peak: u16,
+}
+
+pub enum ReplayAnswer {
+    Accepted(Replayed),
+    Refused(Reason, RecordNo),
+}
+
+pub fn passes(verdict: Verdict) -> bool
+    ensures { λ b. ⌜ b ≡ passes verdict ⌝ }
+{
+    match verdict {
+        Verdict::Fine => true,
+        Verdict::Refused(_) => false,
+    }
+}
+
+// Refused by its lengths: "reporting record 0".
+pub fn refused(verdict: Verdict) -> ReplayAnswer
+    ensures { λ r. ⌜ ((why : Reason) → verdict ≡ Refused why → said r ≡ refused (numberOf why) 0) ⌝ }
+{
+    match verdict {
+        Verdict::Fine => ReplayAnswer::Refused(Reason::Table, RecordNo(0)),
+        Verdict::Refused(why) => ReplayAnswer::Refused(why, RecordNo(0)),
+    }
+}
+
+// A tally of nothing.
+pub fn nothing() -> Tally
+    ensures { λ t. ⌜ tallyOf t ≡ tally 0 0 0 0 ⌝ }
+{
+    Tally {
+        next: 0,
+        held: 0,
+        peak: 0,
+        steps: 0,
+    }
+}
+
+pub fn is_taken(a: StepAnswer) -> bool
+    ensures { λ b. ⌜ b ≡ isTaken (saidOfStep a) ⌝ }
+{
+    match a {
+        StepAnswer::Taken => true,
+        StepAnswer::Refused(_, _) => false,
+        StepAnswer::Unfit => false,
+    }
+}
+
+// The replay's answer to a record that is not taken.
+pub fn stopped(a: StepAnswer) -> ReplayAnswer
+    ensures { λ r. ⌜ ((why k : ℕ) → saidOfStep a ≡ stepRefused why k → said r ≡ refused why k) ⌝ }
+{
+    match a {
+        StepAnswer::Refused(why, k) => ReplayAnswer::Refused(why, k),
+        StepAnswer::Taken => ReplayAnswer::Refused(Reason::Table, RecordNo(0)),
+        StepAnswer::Unfit => ReplayAnswer::Refused(Reason::Table, RecordNo(0)),
+    }
+}
+
+pub fn last_of(t: Tally) -> NodeNo
+    ensures { λ n. ⌜ n .0 ≡ t .next - 1 ⌝ }
+{
+    NodeNo(if t.next == 0 { 0 } else { t.next - 1 })
+}
+
+// 16: at the end the last node isn't held. It reports the count of records.
+pub fn end(t: Tally, last: Found, count: usize, records: usize) -> ReplayAnswer
+    ensures { λ r. ⌜ ((slots : List Slot) → length slots ≡ count → foundOf last ≡ search (holding (t .next - 1)) slots → said r ≡ ending records (state (tallyOf t) slots)) ⌝ }
+{
+    let at = last.at;
+    let slot = last.slot;
+    let conclusion = slot.clause;
+    if at.0 < count {
+        return ReplayAnswer::Accepted(Replayed {
+            conclusion,
+            nodes: t.next,
+            steps: t.steps,
+            peak: t.peak,
+        });
+    }
+    ReplayAnswer::Refused(Reason::NotHeld, RecordNo(records))
+}

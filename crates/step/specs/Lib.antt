@@ -1,3 +1,0 @@
-pub mod Search
-pub mod Said
-pub mod Answers
