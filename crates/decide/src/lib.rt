@@ -14,7 +14,6 @@ ghost use Rattle.slots.specs.Said.{saidOfStep, tallyOf, slotOf, namesOf, seenIn
 use clause::Clause;
 use sheet::NodeNo;
 use sheet::Reading;
-use sheet::Reason;
 use sheet::Record;
 use sheet::RecordNo;
 use sheet::SlotNo;

@@ -1,4 +1,3 @@
 pub mod Emits
 pub mod Emitting
 pub mod Rooms
-pub mod Cores

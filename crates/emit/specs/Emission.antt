@@ -9,7 +9,7 @@ use Rattle.sheet.specs.Records.{Node, Record, node, drop, nodeAt}
 use Rattle.sheet.specs.Fields.{recordBytesOf}
 use Rattle.sheet.specs.Counts.{stepOf}
 use Rattle.pressing.specs.Drops.{dropsAfter}
-use Rattle.emit.specs.declared.emit.Emitted.{Emitted}
+use Rattle.emit.specs.declared.Emitted.{Emitted}
 
 pub record Emission : Type 0 where
   pub out : List ℕ

@@ -30,11 +30,11 @@ use Rattle.pressing.proofs.Accepts.{Sizes, press-fine}
 use Rattle.tables.specs.Tables.{nodesIn, Sound, Nodes}
 use Rattle.tables.proofs.Tables.{nodes-length, nodes-falling}
 use Rattle.press.specs.declared.PressAnswer.the-variants.{Refused}
-use Rattle.judge.specs.declared.judge.Judgement.{Judgement}
-use Rattle.judge.specs.declared.judge.Judgement.the-variants as J
+use Rattle.judge.specs.declared.Judgement.{Judgement}
+use Rattle.judge.specs.declared.Judgement.the-variants as J
 use Rattle.press.specs.Said.{said}
 use Rattle.judge.specs.Turns.{judgedIn}
-use Rattle.emit.specs.Marking.{LineBelow, Emittable}
+use Rattle.marks.specs.Marking.{LineBelow, Emittable}
 
 proper-sound : (rules : List ℕ) (s : List Node) (n : ℕ) (x : Node) → ruleLines narrow rules ≤ 1024 → ProperNode narrow rules s n x → Sound n x
 proper-sound rules s n (given line c) few d = omega (arith, d .0)

@@ -21,7 +21,7 @@ use Rattle.tables.proofs.Tables.{nodes-length}
 use Rattle.order.proofs.Arranged.{nodes-take, arranged-fits, arranged-nodes}
 use Rattle.order.proofs.Arranging.{front-long}
 use Rattle.emit.specs.Emission.{Emission, emission, emitAll}
-use Rattle.emit.specs.Marking.{Emittable}
+use Rattle.marks.specs.Marking.{Emittable}
 use Rattle.emit.proofs.Emits.{emits, records-grow, steps-grow, peak-grows}
 
 -- ---- all records, from nothing

@@ -28,7 +28,7 @@ pub enum PressAnswer {
 pub fn press(sheet: &[u8], rules: &[u8], out: &mut [u8], marks: &mut [u8]) -> PressAnswer
     ensures { λ r. ⌜ outcome (said r) (now (out .exit)) (now (marks .exit)) ≡ press narrow (now (sheet .entry)) (now (rules .entry)) (now (out .entry)) (now (marks .entry)) ⌝ }
 {
-    let verdict = judge::judge::judge_lengths(sheet.len(), rules.len(), out.len(), marks.len());
+    let verdict = judge::judge_lengths(sheet.len(), rules.len(), out.len(), marks.len());
     match verdict {
         Verdict::Fine => {}
         Verdict::Refused(why) => return PressAnswer::Refused(why, RecordNo(0)),

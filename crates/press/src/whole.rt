@@ -9,13 +9,11 @@ ghost use Rattle.pressing.specs.Judge.{checkPress, judge};
 ghost use Rattle.pressing.specs.Order.{orderFrom, laid};
 ghost use Rattle.pressing.specs.Press.{outcome, emit, pressed, byJudging};
 ghost use Rattle.tables.specs.Tables.{nodesIn, Nodes};
-ghost use Rattle.emit.specs.Marking.{Emittable};
+ghost use Rattle.marks.specs.Marking.{Emittable};
 ghost use Rattle.press.specs.Said.{reported, said};
 use crate::PressAnswer;
 use crate::Pressed;
-use judge::judge::Judgement;
-use order::lay;
-use rebuild::pivots;
+use judge::Judgement;
 use sheet::NodeNo;
 use tables::node;
 
@@ -33,8 +31,8 @@ fn emit(
     ensures { λ r. ⌜ outcome (reported r) (now (out .exit)) (now (marks .exit)) ≡ emit narrow lines (nodesIn (now (heads .entry)) (now (positives .entry)) (now (negatives .entry))) (now (out .entry)) (now (marks .entry)) ⌝ }
 {
     let last = (heads.len() - 1) as u16;
-    let written = emit::emit::emit_records(heads, positives, negatives, out);
-    let marked = emit::marks::mark_lines(heads, positives, negatives, lines, marks);
+    let written = drops::emit_records(heads, positives, negatives, out);
+    let marked = marks::mark_lines(heads, positives, negatives, lines, marks);
     Pressed {
         conclusion: node::clause_at(positives, negatives, NodeNo(last)),
         records: written.records,
@@ -119,7 +117,7 @@ pub fn press_records(
     requires { ⌜ (length (now positives) ≡ length (now heads)) × (length (now negatives) ≡ length (now heads)) × (length (now heads) ≡ length (now sheet) / 24) ⌝ }
     ensures { λ r. ⌜ outcome (said r) (now (out .exit)) (now (marks .exit)) ≡ byJudging narrow (ruleLines narrow (now (rules .entry))) (judge narrow (now (rules .entry)) (now (sheet .entry))) (now (out .entry)) (now (marks .entry)) ⌝ }
 {
-    let judgement = judge::judge::judge(sheet, rules, heads, positives, negatives);
+    let judgement = judge::judge(sheet, rules, heads, positives, negatives);
     match judgement {
         Judgement::Proper => {}
         Judgement::Bad(why, k) => return PressAnswer::Refused(why, k),

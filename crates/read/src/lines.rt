@@ -1,7 +1,6 @@
 // The rule table: lines of two sets.
 ghost use mathlib.Core.Path.{_≡_};
 ghost use Prim.Native.Nat.{_<_};
-ghost use lib.ListN.{length};
 ghost use Rattle.clause.specs.Denote.{literalsOf};
 ghost use Rattle.sheet.specs.Editions.{narrow};
 ghost use Rattle.sheet.specs.Fields.{ruleLines, ruleLine};

@@ -9,9 +9,9 @@ use Rattle.clause.specs.declared.Clause.{Clause}
 use Rattle.sheet.specs.Records.{Node, step, clause, nodeAt}
 use Rattle.recycle.specs.declared.reach.Reach.{Reach as CodeReach}
 use Rattle.recycle.specs.declared.reach.Reach.the-variants.{Unreached, Reached}
-use Rattle.recycle.specs.declared.recycle.Cut.{Cut as CodeCut}
-use Rattle.rebuild.specs.declared.rebuild.Way.{Way as CodeWay}
-use Rattle.rebuild.specs.declared.rebuild.Way.the-variants.{TakeLeft, TakeRight, StepAnew}
+use Rattle.recycle.specs.declared.Cut.{Cut as CodeCut}
+use Rattle.rebuild.specs.declared.Way.{Way as CodeWay}
+use Rattle.rebuild.specs.declared.Way.the-variants.{TakeLeft, TakeRight, StepAnew}
 use Rattle.pressing.specs.Recycle.{Reach, unreached, reached, Cut, cutOf, kept, fate, fates}
 use Rattle.pressing.specs.Rebuild.{Built, built, standIn, standing, wayOf, standsFor, newStep, byWay, renew, rebuildTurn}
 use Rattle.recycle.specs.Passes.{reachIn, cutIn}

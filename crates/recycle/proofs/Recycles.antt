@@ -12,8 +12,8 @@ use Rattle.clause.specs.declared.Clause.{Clause}
 use Rattle.sheet.specs.Records.{Node, step, nodeAt}
 use Rattle.recycle.specs.declared.reach.Reach.{Reach as CodeReach}
 use Rattle.recycle.specs.declared.reach.Reach.the-variants.{Unreached, Reached}
-use Rattle.recycle.specs.declared.recycle.Cut.{Cut as CodeCut}
-use Rattle.recycle.specs.declared.recycle.Cut.the-variants.{Left, Right, None}
+use Rattle.recycle.specs.declared.Cut.{Cut as CodeCut}
+use Rattle.recycle.specs.declared.Cut.the-variants.{Left, Right, None}
 use Rattle.pressing.specs.Trim.{sink, usesFrom}
 use Rattle.pressing.specs.Recycle.{Reach, unreached, reached, Fit, reset, hand, cutOf, handOn, visit, recycleTurn, recycle, fates}
 use Rattle.pressing.specs.Rebuild.{Built, rebuild}

@@ -5,8 +5,8 @@ use lib.ListN.{getD}
 use Rattle.clause.specs.Denote.{literalsOf}
 use Rattle.recycle.specs.declared.reach.Reach.{Reach as CodeReach}
 use Rattle.recycle.specs.declared.reach.Reach.the-variants.{Unreached, Reached}
-use Rattle.recycle.specs.declared.recycle.Cut.{Cut as CodeCut}
-use Rattle.recycle.specs.declared.recycle.Cut.the-variants.{Left, Right, None}
+use Rattle.recycle.specs.declared.Cut.{Cut as CodeCut}
+use Rattle.recycle.specs.declared.Cut.the-variants.{Left, Right, None}
 use Rattle.pressing.specs.Recycle.{Reach, unreached, reached, Cut, cutLeft, cutRight, uncut}
 
 -- the uses of n

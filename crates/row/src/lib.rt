@@ -1,6 +1,6 @@
 // The lent row of slots: find, put and free are all that touches it.
 ghost use mathlib.Core.Path.{_≡_};
-ghost use lib.ListN.{length, set, getD};
+ghost use lib.ListN.{set, getD};
 ghost use Rattle.replaying.specs.Slots.{empty, cleared};
 ghost use Rattle.slots.specs.Search.{search};
 ghost use Rattle.slots.specs.Said.{slotOf, rowOf, soughtIn, foundOf};

@@ -25,7 +25,7 @@ pub fn press_whole(
     ensures whole { λ r. ⌜ ((s t : List ℕ) → Starts s «sheet_length» (now (sheet .entry)) → Starts t «rules_length» (now (rules .entry)) → outcome (said r) (now (out .exit)) (now (marks .exit)) ≡ press narrow s t (now (out .entry)) (now (marks .entry))) ⌝ }
     ensures fits { λ r. ⌜ Fits (length (now (out .entry))) r ⌝ }
 {
-    let verdict = judge::judge::judge_lengths(sheet_length, rules_length, out.len(), marks.len());
+    let verdict = judge::judge_lengths(sheet_length, rules_length, out.len(), marks.len());
     match verdict {
         Verdict::Fine => {}
         Verdict::Refused(why) => return PressAnswer::Refused(why, RecordNo(0)),

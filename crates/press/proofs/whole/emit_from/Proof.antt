@@ -7,7 +7,7 @@ use Rattle.sheet.specs.Editions.{narrow}
 use Rattle.sheet.specs.Records.{Node}
 use Rattle.pressing.specs.Press.{emit}
 use Rattle.tables.proofs.Lent.{lent-long}
-use Rattle.emit.specs.Marking.{Emittable}
+use Rattle.marks.specs.Marking.{Emittable}
 use borrow.Author.Needs.{needs}
 use Rattle.press.proofs.whole.emit_from.Statement.{statement}
 use Rattle.press.proofs.whole.emit_from.Tie as tie

@@ -8,7 +8,7 @@ use Rattle.sheet.specs.Records.{Node}
 use Rattle.pressing.specs.Press.{emit}
 use Rattle.tables.proofs.Lent.{lent-long}
 use Rattle.rebuild.proofs.Sounds.{recycled-sound}
-use Rattle.emit.specs.Marking.{Emittable}
+use Rattle.marks.specs.Marking.{Emittable}
 use Rattle.press.proofs.Ready.{from-below, from-pressed}
 use borrow.Author.Needs.{needs}
 use Rattle.press.proofs.whole.press_nodes.Statement.{statement}
