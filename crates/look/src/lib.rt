@@ -46,7 +46,7 @@ fn look_from(sheet: &[u8], rules: &[u8], slots: &mut [Slot], records: usize, at:
     while k < n {
         let from = sheet::limits::RECORD_BYTES * k;
         let end = from + sheet::limits::RECORD_BYTES;
-        answer = replay::step(slots, &mut t, rules, &sheet[from..end], RecordNo(k));
+        answer = step::step(slots, &mut t, rules, &sheet[from..end], RecordNo(k));
         k += 1;
     }
     Look {

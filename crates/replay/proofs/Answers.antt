@@ -53,7 +53,7 @@ use Rattle.answer.specs.Answers.{said, isTaken}
 use Rattle.answer.proofs.ReplayAnswer as B
 use Rattle.answer.proofs.ReplayAnswer.Laws as B′
 use Rattle.row.proofs.Cells.{fv}
-use Rattle.replay.proofs.Values.{tally-val, step-val, answer-val, verdict-val, node-val}
+use Rattle.step.proofs.Values.{tally-val, step-val, answer-val, verdict-val, node-val}
 use Rattle.answer.proofs.nothing as nothing′
 use Rattle.answer.proofs.nothing.Symbol.{name as #nothing}
 use Rattle.answer.proofs.is_taken as taken′

@@ -24,7 +24,7 @@ pub fn run(sheet: &[u8], rules: &[u8], slots: &mut [Slot]) -> ReplayAnswer
     while k < records {
         let at = sheet::limits::RECORD_BYTES * k;
         let end = at + sheet::limits::RECORD_BYTES;
-        let said = crate::step(slots, &mut t, rules, &sheet[at..end], RecordNo(k));
+        let said = step::step(slots, &mut t, rules, &sheet[at..end], RecordNo(k));
         if answer::is_taken(said) {
             k += 1;
         } else {

@@ -75,12 +75,12 @@ use Rattle.look.specs.After.{afterRecords, lookAt, lookOf}
 use Rattle.look.specs.After.{look as looks}
 use Rattle.look.proofs.Look as L
 use Rattle.look.proofs.Look.Laws as L′
-use Rattle.replay.proofs.Values.{tally-val, step-val}
+use Rattle.step.proofs.Values.{tally-val, step-val}
 use Rattle.look.proofs.Shown.{look-val}
 use Rattle.row.proofs.Prims.{sv, nv, Slot-at, call-slot-at}
 use Rattle.replay.proofs.Answers.{Nothing, call-nothing}
-use Rattle.replay.proofs.Stepping.{number, number-is, call-step-at, Step}
-use Rattle.replay.proofs.Going.{number-fits, lent, lent-is, record-inside, count-fits, at-fits, end-fits, part-fits, at-end}
+use Rattle.step.proofs.Stepping.{number, number-is, call-step-at, Step}
+use Rattle.step.proofs.Going.{number-fits, lent, lent-is, record-inside, count-fits, at-fits, end-fits, part-fits, at-end}
 use Rattle.look.proofs.upto as upto′
 use Rattle.look.proofs.upto.Symbol as upto-def
 use Rattle.look.proofs.upto.Symbol.{name as #upto}
@@ -92,9 +92,9 @@ use Rattle.look.proofs.untried.Met as untried-thm
 use Rattle.answer.proofs.nothing.Symbol as nothing-def
 use Rattle.answer.proofs.nothing.Symbol.{name as #nothing}
 use Rattle.answer.proofs.nothing.Met as nothing-thm
-use Rattle.replay.proofs.step.Symbol as step-def
-use Rattle.replay.proofs.step.Symbol.{name as #step}
-use Rattle.replay.proofs.step.Met as step-thm
+use Rattle.step.proofs.step.Symbol as step-def
+use Rattle.step.proofs.step.Symbol.{name as #step}
+use Rattle.step.proofs.step.Met as step-thm
 use Rattle.row.proofs.slot_at.Symbol as slot-at-def
 use Rattle.row.proofs.slot_at.Symbol.{name as #slot-at}
 use Rattle.row.proofs.slot_at.Met as slot-at-thm
@@ -318,6 +318,6 @@ look-from-spec 𝓤 H 𝓜 𝓖 𝓡 =
       upto = cited 𝓤 H (Upto-of 𝓤 H (𝓖 .A) (𝓜 .mem) (𝓡 .run)) 𝓜 𝓡 code.env #upto upto-def.routine code.calls-look·upto (upto-thm.met 𝓤 H 𝓜 𝓖 𝓡);
       untried = cited 𝓤 H (Untried 𝓤 H (𝓖 .A) (𝓜 .mem) (𝓡 .run)) 𝓜 𝓡 code.env #untried untried-def.routine code.calls-look·untried (untried-thm.met 𝓤 H 𝓜 𝓖 𝓡);
       nothing = cited 𝓤 H (Nothing 𝓤 H (𝓖 .A) (𝓜 .mem) (𝓡 .run)) 𝓜 𝓡 code.env #nothing nothing-def.routine code.calls-answer·nothing (nothing-thm.met 𝓤 H 𝓜 𝓖 𝓡);
-      step = cited 𝓤 H (Step 𝓤 H (𝓖 .A) (𝓜 .mem) (𝓡 .run)) 𝓜 𝓡 code.env #step step-def.routine code.calls-replay·step (step-thm.met 𝓤 H 𝓜 𝓖 𝓡);
+      step = cited 𝓤 H (Step 𝓤 H (𝓖 .A) (𝓜 .mem) (𝓡 .run)) 𝓜 𝓡 code.env #step step-def.routine code.calls-step·step (step-thm.met 𝓤 H 𝓜 𝓖 𝓡);
       slot-at = cited 𝓤 H (Slot-at 𝓤 H (𝓖 .A) (𝓜 .mem) (𝓡 .run)) 𝓜 𝓡 code.env #slot-at slot-at-def.routine code.calls-row·slot-at (slot-at-thm.met 𝓤 H 𝓜 𝓖 𝓡);
     }))

@@ -63,7 +63,7 @@ use Rattle.answer.specs.declared.ReplayAnswer.{ReplayAnswer}
 use Rattle.answer.specs.Answers.{said}
 use Rattle.answer.proofs.ReplayAnswer as B
 use Rattle.answer.proofs.ReplayAnswer.Laws as B′
-use Rattle.replay.proofs.Values.{answer-val, verdict-val}
+use Rattle.step.proofs.Values.{answer-val, verdict-val}
 use Rattle.row.proofs.Prims.{Clear, call-clear}
 use Rattle.replay.proofs.Answers.{Passes, Refuses, call-passes, call-refused}
 use Rattle.replay.proofs.Whole.{cleared-length, fine-is, comes-fine, comes-refused}

@@ -80,11 +80,11 @@ use Rattle.answer.specs.declared.ReplayAnswer.{ReplayAnswer}
 use Rattle.answer.specs.Answers.{said}
 use Rattle.answer.proofs.ReplayAnswer as B
 use Rattle.answer.proofs.ReplayAnswer.Laws as B′
-use Rattle.replay.proofs.Values.{tally-val, step-val, answer-val, node-is}
+use Rattle.step.proofs.Values.{tally-val, step-val, answer-val, node-is}
 use Rattle.row.proofs.Prims.{Find, call-find}
 use Rattle.replay.proofs.Answers.{Nothing, Is-taken, Stopped, Last-of, End, call-nothing, call-taken, call-stopped, call-last, call-end}
-use Rattle.replay.proofs.Stepping.{number, number-is, call-step-at, Comes, Step}
-use Rattle.replay.proofs.Going.{number-fits, Goes, goes-none, goes-all, goes-on, goes-no-more, lent, record-inside, count-fits, at-fits, end-fits, part-fits, at-end}
+use Rattle.step.proofs.Stepping.{number, number-is, call-step-at, Comes, Step}
+use Rattle.step.proofs.Going.{number-fits, Goes, goes-none, goes-all, goes-on, goes-no-more, lent, record-inside, count-fits, at-fits, end-fits, part-fits, at-end}
 use Rattle.answer.proofs.nothing.Symbol as nothing-def
 use Rattle.answer.proofs.nothing.Symbol.{name as #nothing}
 use Rattle.answer.proofs.nothing.Met as nothing-thm
@@ -100,9 +100,9 @@ use Rattle.answer.proofs.last_of.Met as last-thm
 use Rattle.answer.proofs.end.Symbol as end-def
 use Rattle.answer.proofs.end.Symbol.{name as #end}
 use Rattle.answer.proofs.end.Met as end-thm
-use Rattle.replay.proofs.step.Symbol as step-def
-use Rattle.replay.proofs.step.Symbol.{name as #step}
-use Rattle.replay.proofs.step.Met as step-thm
+use Rattle.step.proofs.step.Symbol as step-def
+use Rattle.step.proofs.step.Symbol.{name as #step}
+use Rattle.step.proofs.step.Met as step-thm
 use Rattle.row.proofs.find.Symbol as find-def
 use Rattle.row.proofs.find.Symbol.{name as #find}
 use Rattle.row.proofs.find.Met as find-thm
@@ -320,7 +320,7 @@ run-spec 𝓤 H 𝓜 𝓖 𝓡 =
     (meets 𝓤 H (𝓖 .A) (givenOf 𝓤 H 𝓜 𝓖) (𝓜 .mem) (𝓡 .run) (tablesOf 𝓤 H 𝓜 (tables 𝓤 H 𝓜 𝓡 code.env))
     (record {
       nothing = cited 𝓤 H (Nothing 𝓤 H (𝓖 .A) (𝓜 .mem) (𝓡 .run)) 𝓜 𝓡 code.env #nothing nothing-def.routine code.calls-answer·nothing (nothing-thm.met 𝓤 H 𝓜 𝓖 𝓡);
-      step = cited 𝓤 H (Step 𝓤 H (𝓖 .A) (𝓜 .mem) (𝓡 .run)) 𝓜 𝓡 code.env #step step-def.routine code.calls-replay·step (step-thm.met 𝓤 H 𝓜 𝓖 𝓡);
+      step = cited 𝓤 H (Step 𝓤 H (𝓖 .A) (𝓜 .mem) (𝓡 .run)) 𝓜 𝓡 code.env #step step-def.routine code.calls-step·step (step-thm.met 𝓤 H 𝓜 𝓖 𝓡);
       taken = cited 𝓤 H (Is-taken 𝓤 H (𝓖 .A) (𝓜 .mem) (𝓡 .run)) 𝓜 𝓡 code.env #taken taken-def.routine code.calls-answer·is-taken (taken-thm.met 𝓤 H 𝓜 𝓖 𝓡);
       stopped = cited 𝓤 H (Stopped 𝓤 H (𝓖 .A) (𝓜 .mem) (𝓡 .run)) 𝓜 𝓡 code.env #stopped stopped-def.routine code.calls-answer·stopped (stopped-thm.met 𝓤 H 𝓜 𝓖 𝓡);
       last = cited 𝓤 H (Last-of 𝓤 H (𝓖 .A) (𝓜 .mem) (𝓡 .run)) 𝓜 𝓡 code.env #last last-def.routine code.calls-answer·last-of (last-thm.met 𝓤 H 𝓜 𝓖 𝓡);

@@ -86,7 +86,7 @@ use Rattle.decide.proofs.decide.Symbol as decide-def
 use Rattle.decide.proofs.decide.Symbol.{name as #decide}
 use Rattle.decide.proofs.decide.Met as decide-thm
 use Rattle.row.proofs.Cells.{fv}
-use Rattle.replay.proofs.Values.{tally-val, decided-val, step-val, names-val, node-val, record-val, node-is, free-is}
+use Rattle.step.proofs.Values.{tally-val, decided-val, step-val, names-val, node-val, record-val, node-is, free-is}
 use Rattle.row.proofs.Prims.{Find, Put, call-find, call-put}
 use Rattle.row.proofs.find.Symbol as find-def
 use Rattle.row.proofs.find.Symbol.{name as #find}
@@ -94,11 +94,11 @@ use Rattle.row.proofs.find.Met as find-thm
 use Rattle.row.proofs.put.Symbol as put-def
 use Rattle.row.proofs.put.Symbol.{name as #put}
 use Rattle.row.proofs.put.Met as put-thm
-use Rattle.replay.proofs.step.Key.{name as #key}
-use Rattle.replay.proofs.step as f
-use Rattle.replay.proofs.step.Statement as stated
-use Rattle.replay.proofs.step.Code as code
-use Rattle.replay.proofs.step.Code.Mir as m
+use Rattle.step.proofs.step.Key.{name as #key}
+use Rattle.step.proofs.step as f
+use Rattle.step.proofs.step.Statement as stated
+use Rattle.step.proofs.step.Code as code
+use Rattle.step.proofs.step.Code.Mir as m
 
 -- nothing is asked back of what is shared or plain
 abbrev stayed : Stays (f.ended .signature .params) (f.ended .kept)

@@ -53,10 +53,10 @@ use Rattle.slots.proofs.Slot as T
 use Rattle.slots.proofs.Tally as Y
 use Rattle.slots.proofs.StepAnswer as S
 use Rattle.slots.proofs.StepAnswer.Laws as S′
-use Rattle.replay.proofs.Going.{lent, at-inside, number-fits}
-use Rattle.replay.proofs.Values.{step-val, record-val}
-use Rattle.replay.proofs.step as step
-use Rattle.replay.proofs.step.Symbol.{name as #step}
+use Rattle.step.proofs.Going.{lent, at-inside, number-fits}
+use Rattle.step.proofs.Values.{step-val, record-val}
+use Rattle.step.proofs.step as step
+use Rattle.step.proofs.step.Symbol.{name as #step}
 
 -- what one step comes to
 abbrev pub Comes : List ℕ → List ℕ → RecordNo → List Slot → Tally → StepAnswer → List Slot → Tally → Type 0
