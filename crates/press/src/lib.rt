@@ -8,7 +8,7 @@ use sheet::Reason;
 use sheet::RecordNo;
 use sheet::Verdict;
 
-pub mod whole;
+pub mod passes;
 
 pub struct Pressed {
     pub conclusion: Clause,
@@ -37,7 +37,7 @@ pub fn press(sheet: &[u8], rules: &[u8], out: &mut [u8], marks: &mut [u8]) -> Pr
     let mut heads = [0u64; 512];
     let mut positives = [0u64; 512];
     let mut negatives = [0u64; 512];
-    whole::press_records(
+    passes::press_records(
         sheet,
         rules,
         &mut heads[..n],

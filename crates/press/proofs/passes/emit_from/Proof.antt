@@ -9,8 +9,8 @@ use Rattle.pressing.specs.Press.{emit}
 use Rattle.tables.proofs.Lent.{lent-long}
 use Rattle.marks.specs.Marking.{Emittable}
 use borrow.Author.Needs.{needs}
-use Rattle.press.proofs.whole.emit_from.Statement.{statement}
-use Rattle.press.proofs.whole.emit_from.Tie as tie
+use Rattle.press.proofs.passes.emit_from.Statement.{statement}
+use Rattle.press.proofs.passes.emit_from.Tie as tie
 
 array-borrow-prefix-heads2 : tie.Need-array-borrow-prefix-heads2
 array-borrow-prefix-heads2 c = search needs

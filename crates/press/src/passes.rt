@@ -1,4 +1,4 @@
-// The whole press: judged, trimmed, recycled, rebuilt, ordered, and written with its drops and its marks.
+// Every pass after another: judged, trimmed, recycled, rebuilt, ordered, and written with its drops and its marks.
 ghost use mathlib.Core.Path.{_≡_};
 ghost use Prim.Native.Nat.{_/_, _<_};
 ghost use lib.ListN.{length};

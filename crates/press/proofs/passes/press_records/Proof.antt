@@ -3,8 +3,8 @@ use native.Mathlib.Omega.{arith}
 use Rattle.press.specs.Said.{said}
 use Rattle.press.proofs.Ready.{whole-records, some-records, few-records, judged-emittable, judged-nodes, judged-bad, judged-well, pressed-well}
 use borrow.Author.Needs.{needs}
-use Rattle.press.proofs.whole.press_records.Statement.{statement}
-use Rattle.press.proofs.whole.press_records.Tie as tie
+use Rattle.press.proofs.passes.press_records.Statement.{statement}
+use Rattle.press.proofs.passes.press_records.Tie as tie
 
 judge-requires : tie.Need-judge-requires
 judge-requires c κs = let s = c .before .before .before .before .before .before .before .before .before .before in

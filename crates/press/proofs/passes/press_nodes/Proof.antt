@@ -11,8 +11,8 @@ use Rattle.rebuild.proofs.Sounds.{recycled-sound}
 use Rattle.marks.specs.Marking.{Emittable}
 use Rattle.press.proofs.Ready.{from-below, from-pressed}
 use borrow.Author.Needs.{needs}
-use Rattle.press.proofs.whole.press_nodes.Statement.{statement}
-use Rattle.press.proofs.whole.press_nodes.Tie as tie
+use Rattle.press.proofs.passes.press_nodes.Statement.{statement}
+use Rattle.press.proofs.passes.press_nodes.Tie as tie
 
 array-borrow-prefix-stand-ins : tie.Need-array-borrow-prefix-stand-ins
 array-borrow-prefix-stand-ins c = search needs

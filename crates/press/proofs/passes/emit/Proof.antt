@@ -4,8 +4,8 @@ use native.Mathlib.Omega.{arith}
 use Rattle.tables.specs.Tables.{nodesIn}
 use Rattle.emit.specs.Emission.{emissionOf}
 use borrow.Author.Needs.{needs}
-use Rattle.press.proofs.whole.emit.Statement.{statement}
-use Rattle.press.proofs.whole.emit.Tie as tie
+use Rattle.press.proofs.passes.emit.Statement.{statement}
+use Rattle.press.proofs.passes.emit.Tie as tie
 
 sub-last : tie.Need-sub-last
 sub-last c = let st = c .before .before .before .before .before in
