@@ -1,29 +1,17 @@
--- The function that presses and replays: what it lends, and when the replay in it accepts.
+-- When the replay of what was pressed accepts.
 use Prim.Native.Nat.{ℕ, _*_, _-_, _<_, _≤_}
 use mathlib.Core.Path.{_≡_, refl, sym, ap, _∙_}
 use mathlib.Core.List.{List}
 use native.Mathlib.Omega.{arith}
-use lib.ListN.{length, take, replicate, length-replicate}
-use Rattle.sheet.specs.declared.Reason.{Reason}
-use Rattle.sheet.specs.declared.RecordNo.{RecordNo}
+use lib.ListN.{length, replicate, length-replicate}
 use Rattle.sheet.specs.Editions.{Edition, narrow, recordBytes}
 use Rattle.sheet.specs.Counts.{firstOver}
 use Rattle.replaying.specs.Slots.{Slot, empty}
 use Rattle.replaying.specs.Replay as Replay
-use Rattle.answer.specs.declared.ReplayAnswer.{ReplayAnswer}
-use Rattle.answer.specs.Answers as ReplaySaid
 use Rattle.pressing.specs.Drops.{withDrops}
 use Rattle.pressing.specs.Press as Press
-use Rattle.pressing.proofs.Nodes.{proper-falling}
-use Rattle.pressing.proofs.Drops.{length-withDrops-most}
-use Rattle.pressing.proofs.Accepts.{accepted-says}
-use Rattle.press.specs.declared.Pressed.{Pressed}
-use Rattle.press.specs.declared.PressAnswer.{PressAnswer}
-use Rattle.press.specs.declared.PressAnswer.the-variants as A
-use Rattle.press.specs.Said as PressSaid
-use Rattle.demands.specs.declared.Shipment.the-variants as S
 use Rattle.demands.specs.Demands.{Accepted, Ships, written}
-use Rattle.demands.specs.Shipping.{unpressed, tried, tryOut, ship, saidOfShipment}
+use Rattle.demands.specs.Shipping.{tried, tryOut, ship}
 use Rattle.demands.proofs.Written.{Wrote, accepted-wrote}
 use Rattle.demands.proofs.Press.{press-demands}
 
@@ -38,27 +26,3 @@ press-ships e sheet rules out marks c records nodes steps peak marked slots a =
       (λ h. rw (a .answer) (ap (tried (Press.accepted c records nodes steps peak marked)) (d .replays row (omega (arith, long))))),
       (λ h. (firstOver (length row) 0 rs, rw (a .answer) (ap (tried (Press.accepted c records nodes steps peak marked)) (d .tight row rs (omega (arith, long)) (w .proper .read))))),
     )
-
--- ---- the function
-
-module _ (sheet rules out marks : List ℕ) (a : PressAnswer) (out′ marks′ : List ℕ)
-    (does : Press.outcome (PressSaid.said a) out′ marks′ ≡ Press.press narrow sheet rules out marks) where
-  pub ships-refused : (why : Reason) (k : RecordNo) (slots : ℕ) → a ≡ A.Refused why k
-      → saidOfShipment (S.Refused why k) ≡ ship narrow sheet rules out marks slots
-  unfolding ship tryOut saidOfShipment PressSaid.said
-  ships-refused why k slots q = rw (← does, q)
-
-  pub ships-tried : (p : Pressed) (r : ReplayAnswer) (slots end : ℕ) → a ≡ A.Accepted p → end ≡ 24 * p .records
-      → ReplaySaid.said r ≡ Replay.replay narrow (take end out′) rules (replicate slots empty) .answer
-      → saidOfShipment (S.Tried p r) ≡ ship narrow sheet rules out marks slots
-  unfolding ship tryOut saidOfShipment PressSaid.said
-  ships-tried p r slots end q e s = rw (← does, q, ← e, s)
-
-  pub written-fits : (p : Pressed) → a ≡ A.Accepted p → length out′ ≡ length out → 24 * p .records ≤ length out′
-  unfolding PressSaid.said
-  written-fits p q long =
-      let answered : Press.press narrow sheet rules out marks .answer ≡ PressSaid.reported p = ap (λ (o : Press.Outcome). o .answer) (sym does) ∙ ap PressSaid.said q in
-      let says = accepted-says narrow sheet rules out marks _ _ _ _ _ _ answered in
-      let kept = says .kept in
-      let most = length-withDrops-most (Press.pressed (says .input)) (proper-falling narrow rules (Press.pressed (says .input)) (kept .proper)) in
-      omega (arith, most, says .recorded, kept .fits, says .sizes .1 .0, long)

@@ -3,10 +3,10 @@ use Prim.Native.Nat.{ℕ, _*_}
 use native.Mathlib.Omega.{arith}
 use lib.Seq.{length-take-le}
 use Rattle.pressing.specs.Press.{Outcome}
-use Rattle.demands.proofs.Ships.{ships-refused, ships-tried, written-fits}
+use Rattle.ship.proofs.Shipments.{ships-refused, ships-tried, written-fits}
 use borrow.Author.Needs.{needs}
-use Rattle.demands.proofs.press_and_replay.Statement.{statement}
-use Rattle.demands.proofs.press_and_replay.Tie as tie
+use Rattle.ship.proofs.press_and_replay.Statement.{statement}
+use Rattle.ship.proofs.press_and_replay.Tie as tie
 
 press-requires : tie.Need-press-requires
 press-requires c κs = search needs

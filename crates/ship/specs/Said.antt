@@ -1,0 +1,11 @@
+-- What the answer of the press and the replay together says.
+use Rattle.sheet.specs.Reasons.{numberOf}
+use Rattle.answer.specs.Answers as ReplaySaid
+use Rattle.press.specs.Said as PressSaid
+use Rattle.demands.specs.Shipping.{Shipped, unpressed, tried}
+use Rattle.ship.specs.declared.Shipment.{Shipment}
+use Rattle.ship.specs.declared.Shipment.the-variants as S
+
+unfoldable pub saidOfShipment : Shipment → Shipped
+saidOfShipment (S.Refused why k) = unpressed (numberOf why) (k .0)
+saidOfShipment (S.Tried p r) = tried (PressSaid.reported p) (ReplaySaid.said r)

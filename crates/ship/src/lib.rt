@@ -1,0 +1,40 @@
+// The press and the replay tied together.
+ghost use mathlib.Core.Path.{_≡_};
+ghost use Rattle.sheet.specs.Editions.{narrow};
+ghost use Rattle.pressing.specs.Press.{press};
+ghost use Rattle.demands.specs.Shipping.{ship};
+ghost use Rattle.ship.specs.Said.{saidOfShipment};
+use press::PressAnswer;
+use press::Pressed;
+use sheet::Reason;
+use sheet::RecordNo;
+use answer::ReplayAnswer;
+
+// The press refused; or what it reported, and what the replay of its output answered.
+pub enum Shipment {
+    Refused(Reason, RecordNo),
+    Tried(Pressed, ReplayAnswer),
+}
+
+// What an office runs before it ships a sheet: presses it, and replays what was written in so many slots.
+pub fn press_and_replay(
+    sheet: &[u8],
+    rules: &[u8],
+    out: &mut [u8],
+    marks: &mut [u8],
+    slots: usize,
+) -> Shipment
+    ensures answer { λ r. ⌜ saidOfShipment r ≡ ship narrow (now (sheet .entry)) (now (rules .entry)) (now (out .entry)) (now (marks .entry)) slots ⌝ }
+    ensures out { λ r. ⌜ now (out .exit) ≡ press narrow (now (sheet .entry)) (now (rules .entry)) (now (out .entry)) (now (marks .entry)) .out ⌝ }
+    ensures marks { λ r. ⌜ now (marks .exit) ≡ press narrow (now (sheet .entry)) (now (rules .entry)) (now (out .entry)) (now (marks .entry)) .marks ⌝ }
+{
+    let answer = press::press(sheet, rules, out, marks);
+    match answer {
+        PressAnswer::Refused(why, k) => Shipment::Refused(why, k),
+        PressAnswer::Accepted(pressed) => {
+            let end = sheet::limits::RECORD_BYTES * base::wide(pressed.records);
+            let replayed = replay::own::replay_in(&out[..end], rules, slots);
+            Shipment::Tried(pressed, replayed)
+        }
+    }
+}
