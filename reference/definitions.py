@@ -109,7 +109,7 @@ def main():
         scratch = pathlib.Path(place)
         shutil.copytree(ROOT / "crates", scratch / "crates")
         names = [line for line in (ROOT / "crates.txt").read_text().splitlines() if line.strip()]
-        names.append("scratch: base clause sheet replaying lending step row replay pressing tables recycle order press demands")
+        names.append("scratch: base clause sheet replaying pressing demands")
         (scratch / "crates.txt").write_text("\n".join(names) + "\n")
         specs = scratch / "crates/scratch/specs"
         specs.mkdir(parents=True)

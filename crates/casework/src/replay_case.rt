@@ -1,12 +1,12 @@
 // A case of the replay: its answer; and for one that is shown, what stands after each record.
+use answer::ReplayAnswer;
+use answer::Replayed;
 use sheet::SlotNo;
 use sheet::Verdict;
-use stdio::text;
 use slots::Slot;
 use slots::StepAnswer;
 use slots::Tally;
-use answer::ReplayAnswer;
-use answer::Replayed;
+use stdio::text;
 
 fn print_replayed(r: Replayed) {
     text::print_ok(r.conclusion);
@@ -85,11 +85,7 @@ fn print_record(sheet: &[u8], rules: &[u8], slots: usize, records: usize) -> boo
 
 // Record after record, up to one that is refused; none where the lengths are.
 pub fn show(sheet: &[u8], rules: &[u8], slots: usize) {
-    let verdict = checks::check_lengths(
-        sheet::limits::REPLAY_RECORDS,
-        sheet.len(),
-        rules.len(),
-    );
+    let verdict = checks::check_lengths(sheet::limits::REPLAY_RECORDS, sheet.len(), rules.len());
     let Verdict::Fine = verdict else {
         return;
     };

@@ -3,13 +3,13 @@ ghost use mathlib.Core.Path.{_≡_};
 ghost use Rattle.clause.specs.Denote.{literalsOf};
 ghost use Rattle.sheet.specs.Editions.{narrow};
 ghost use Rattle.sheet.specs.Checks.{checkTable, checkLengths, checkEarlier, checkStep, checkGiven};
+use clause::Clause;
+use read::lines;
 use sheet::LineNo;
 use sheet::NodeNo;
 use sheet::Reason;
 use sheet::Verdict;
 use sheet::limits;
-use read::lines;
-use clause::Clause;
 
 // 4: rule table isn't a multiple of 16, or over 1,024 lines.
 pub fn check_table(rules: usize) -> Verdict

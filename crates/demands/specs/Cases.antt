@@ -1,9 +1,9 @@
 -- A worked case: a sheet and a rule table with what press or replay must make of them, in numbers, and the test that they do.
 use Prim.Native.Nat.{ℕ}
 use mathlib.Core.Bool.{Bool, true, false, _&&_}
-use mathlib.Core.List.{List, [], _∷_, _++_}
+use mathlib.Core.List.{List, [], _∷_}
 use lib.Dec.{eqb}
-use lib.ListN.{length, replicate}
+use lib.ListN.{replicate}
 use Rattle.base.specs.Bytes.{flat}
 use Rattle.clause.specs.Clauses.{Literals, literals}
 use Rattle.sheet.specs.Editions.{narrow}

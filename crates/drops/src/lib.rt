@@ -2,7 +2,7 @@
 // never dropped."
 ghost use mathlib.Core.Path.{_≡_};
 ghost use mathlib.Core.Bool.{not};
-ghost use Prim.Native.Nat.{_<_, min, max, _+_, _-_};
+ghost use Prim.Native.Nat.{_<_, min, max, _+_};
 ghost use lib.Dec.{eqb};
 ghost use lib.ListN.{length, drop as after};
 ghost use Rattle.sheet.specs.Records.{nodeAt};

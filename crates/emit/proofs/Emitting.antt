@@ -1,13 +1,13 @@
 -- One law for each way through the emitting pass.
-use mathlib.Core.Path.{_≡_, refl, sym, ap, ap₂, _∙_}
+use mathlib.Core.Path.{_≡_, refl, sym, ap, _∙_}
 use mathlib.Core.Bool.{Bool, true, false, not, cond, true≢false}
-use mathlib.Core.List.{List, [], _∷_, _++_, append-nil}
-use Prim.Native.Nat.{ℕ, zero, suc, _+_, _-_, _*_, _<_, _≤_, min, max}
+use mathlib.Core.List.{List, [], _∷_}
+use Prim.Native.Nat.{ℕ, zero, suc, _+_, _-_, _*_, _<_, _≤_, max}
 use native.Mathlib.Omega.{arith}
 use native.Mathlib.Numerals.{add-one}
-use borrow.Author.Tests.{eq-eqb, ne-eqb, eqb-true}
+use borrow.Author.Tests.{eq-eqb, ne-eqb}
 use lib.Dec.{eqb}
-use lib.ListN.{length, length-append}
+use lib.ListN.{length}
 use lib.ListN.{drop as after}
 use lib.Seq.{drop-cons}
 use Rattle.base.specs.Bytes.{put}
@@ -17,10 +17,8 @@ use Rattle.sheet.specs.Fields.{recordBytesOf}
 use Rattle.sheet.specs.Counts.{stepOf}
 use Rattle.sheet.specs.Records.{Node, given, step, Record, node, drop, nodeAt}
 use Rattle.pressing.specs.Trim.{naming, usesIn, uses}
-use Rattle.pressing.specs.Drops.{dropLast, dropsAfter, withDrops}
-use Rattle.emit.specs.Emission.{Emission, emission, emitRecord, emitAll, recordsAt, Roomy}
+use Rattle.emit.specs.Emission.{emission, emitRecord}
 use Rattle.tables.proofs.Found.{IsGiven}
-use Rattle.emit.proofs.Emits.{emitAll-append, records-grow}
 
 -- ---- whether a node names n
 

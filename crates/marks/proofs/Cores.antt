@@ -2,7 +2,7 @@
 use mathlib.Core.Path.{_≡_, refl, sym, ap, ap₂, _∙_}
 use mathlib.Core.Logic.{⊎-elim}
 use mathlib.Core.List.{List, [], _∷_, _++_}
-use Prim.Native.Nat.{ℕ, zero, suc, _+_, _-_, _<_, _≤_}
+use Prim.Native.Nat.{ℕ, _+_, _<_, _≤_}
 use native.Mathlib.Omega.{arith}
 use native.Mathlib.Numerals.{add-one}
 use types.Run.{OneOf}
@@ -23,7 +23,7 @@ use Rattle.sheet.specs.Denote.{recordOf}
 use Rattle.sheet.proofs.Record.{the-type}
 use Rattle.pressing.specs.Drops.{markLines, total}
 use Rattle.pressing.proofs.Marks.{length-marks}
-use Rattle.marks.specs.Marking.{markNode, LineBelow, LinesBelow}
+use Rattle.marks.specs.Marking.{markNode, LinesBelow}
 use Rattle.emit.proofs.Emitting.{from-cons, after-all}
 
 pub found-line : (x : Record) (m : Node) (line : LineNo) (c : Clause) → recordOf x ≡ node m → x ≡ Given line c → m ≡ given (line .0) (literalsOf c)

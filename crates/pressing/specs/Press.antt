@@ -1,5 +1,5 @@
 -- The whole press.
-use Prim.Native.Nat.{ℕ, _/_, pred}
+use Prim.Native.Nat.{ℕ}
 use mathlib.Core.List.{List}
 use lib.ListN.{length, replicate}
 use Rattle.base.specs.Bytes.{put}

@@ -1,7 +1,7 @@
 -- 2. Recycle pivots (000, algorithm 3): "From the sink down by number, each reached node has a set S. The sink is reached, and so is each
 -- parent on an uncut edge of a reached step."
 use Prim.Native.Nat.{ℕ, suc}
-use mathlib.Core.Bool.{Bool, true, false, cond}
+use mathlib.Core.Bool.{cond}
 use mathlib.Core.List.{List}
 use lib.Dec.{ltb}
 use lib.ListN.{length, getD, set, replicate}

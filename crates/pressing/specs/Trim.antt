@@ -1,6 +1,6 @@
 -- 1. Trim: "The sink is the last record. Keep what the sink reaches through parents." And the uses of a node in what is kept.
 use Prim.Native.Nat.{ℕ, suc, _+_, pred}
-use mathlib.Core.Bool.{Bool, true, false, cond}
+use mathlib.Core.Bool.{cond}
 use mathlib.Core.List.{List, [], _∷_}
 use lib.Dec.{eqb}
 use lib.ListN.{length, getD, set, replicate}

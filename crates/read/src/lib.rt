@@ -6,6 +6,8 @@ ghost use Rattle.sheet.specs.Editions.{narrow};
 ghost use Rattle.sheet.specs.Fields.{clauseAt, fieldsOf, readGiven, readStep, readDrop, readFields, reading};
 ghost use Rattle.sheet.specs.Denote.{fieldsIn, readingOf, whyUnread};
 ghost use Rattle.clause.specs.Denote.{literalsOf};
+use clause::Clause;
+use clause::Set;
 use sheet::Fields;
 use sheet::LineNo;
 use sheet::NodeNo;
@@ -13,8 +15,6 @@ use sheet::Reading;
 use sheet::Reason;
 use sheet::Record;
 use sheet::limits;
-use clause::Clause;
-use clause::Set;
 
 pub mod lines;
 

@@ -4,9 +4,9 @@ ghost use Prim.Native.Nat.{_<_};
 ghost use Rattle.clause.specs.Denote.{literalsOf};
 ghost use Rattle.sheet.specs.Editions.{narrow};
 ghost use Rattle.sheet.specs.Fields.{ruleLines, ruleLine};
+use clause::Clause;
 use sheet::LineNo;
 use sheet::limits;
-use clause::Clause;
 
 pub fn line_count(rules: &[u8]) -> usize
     ensures { λ r. ⌜ r ≡ ruleLines narrow (now (rules .entry)) ⌝ }

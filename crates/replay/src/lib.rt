@@ -13,11 +13,7 @@ pub mod run;
 pub fn replay(sheet: &[u8], rules: &[u8], slots: &mut [Slot]) -> answer::ReplayAnswer
     ensures { λ r. ⌜ outcome (said r) (rowOf (now (slots .exit))) ≡ replay narrow (now (sheet .entry)) (now (rules .entry)) (rowOf (now (slots .entry))) ⌝ }
 {
-    let verdict = checks::check_lengths(
-        sheet::limits::REPLAY_RECORDS,
-        sheet.len(),
-        rules.len(),
-    );
+    let verdict = checks::check_lengths(sheet::limits::REPLAY_RECORDS, sheet.len(), rules.len());
     if answer::passes(verdict) {
         row::clear(slots);
         let answer = run::run(sheet, rules, slots);

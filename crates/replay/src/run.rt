@@ -9,10 +9,10 @@ ghost use Rattle.replaying.specs.Step.{tally, state};
 ghost use Rattle.replaying.specs.Replay.{run};
 ghost use Rattle.slots.specs.Said.{rowOf};
 ghost use Rattle.answer.specs.Answers.{said};
+use answer::ReplayAnswer;
 use sheet::RecordNo;
 use slots::Slot;
 use slots::Sought;
-use answer::ReplayAnswer;
 
 pub fn run(sheet: &[u8], rules: &[u8], slots: &mut [Slot]) -> ReplayAnswer
     requires { ⌜ checkLengths narrow (replayRecords narrow) (length (now sheet)) (length (now rules)) ≡ Fine ⌝ }

@@ -1,5 +1,5 @@
 -- The whole replay: checks 1 to 4, then record by record, then 16.
-use Prim.Native.Nat.{ℕ, zero, suc, _+_, _-_, _/_}
+use Prim.Native.Nat.{ℕ, zero, suc, _-_, _/_}
 use mathlib.Core.Bool.{cond}
 use mathlib.Core.List.{List}
 use lib.ListN.{length}
@@ -12,7 +12,7 @@ use Rattle.sheet.specs.Reasons.{numberOf}
 use Rattle.sheet.specs.Fields.{recordAt}
 use Rattle.sheet.specs.Checks.{checkLengths}
 use Rattle.replaying.specs.Slots.{Slot, held, clauseHeld, cleared}
-use Rattle.replaying.specs.Step.{Tally, tally, State, state, Turn, goes, stops, turn}
+use Rattle.replaying.specs.Step.{tally, State, state, goes, stops, turn}
 
 -- the paper's number and record of a refusal; conclusion, nodes, steps and peak of a result
 pub data Answer : Type 0 where

@@ -1,7 +1,7 @@
 -- "The clauses held live in a lent row of slots, each with a node number, two sets and a mark of whether it's in use; a free slot is
 -- all zero." A slot whose mark is not zero is in use, whatever its other fields hold.
 use Prim.Native.Nat.{ℕ, suc}
-use mathlib.Core.Bool.{Bool, true, false, not, _&&_, cond}
+use mathlib.Core.Bool.{Bool, not, _&&_, cond}
 use mathlib.Core.List.{List, [], _∷_}
 use lib.Dec.{eqb, ltb}
 use lib.ListN.{length, getD, set, replicate}

@@ -1,5 +1,5 @@
 -- One record of the replay: the tally and the slots before it, what is refused, and the tally and the slots after it.
-use Prim.Native.Nat.{ℕ, suc, _+_, _-_, max}
+use Prim.Native.Nat.{ℕ, _+_, _-_, max}
 use mathlib.Core.Bool.{Bool, true, false, _&&_, cond}
 use mathlib.Core.List.{List}
 use lib.Dec.{eqb, ltb, leb}
@@ -11,7 +11,7 @@ use Rattle.sheet.specs.declared.Verdict.{Verdict}
 use Rattle.sheet.specs.declared.Verdict.the-variants.{Fine, Refused}
 use Rattle.sheet.specs.Editions.{Edition, recordBytes, replayRecords}
 use Rattle.sheet.specs.Reasons.{numberOf, unless, andThen}
-use Rattle.sheet.specs.Records.{Node, given, step, Record, node, drop, clause, Reading, reads, unread}
+use Rattle.sheet.specs.Records.{given, step, Record, node, drop, clause, Reading, reads, unread}
 use Rattle.sheet.specs.Fields.{reading}
 use Rattle.sheet.specs.Counts.{stepOf}
 use Rattle.sheet.specs.Checks.{checkTable, checkEarlier, checkStep, checkGiven}

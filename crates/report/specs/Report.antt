@@ -2,7 +2,6 @@
 use Prim.Native.Nat.{ℕ, suc}
 use mathlib.Core.List.{List, [], _∷_}
 use lib.ListN.{set}
-use Rattle.clause.specs.Clauses.{Literals}
 use Rattle.pressing.specs.Press.{Answer, refused, accepted}
 use Rattle.replaying.specs.Replay as R
 

@@ -6,8 +6,8 @@ ghost use lib.ListN.{set};
 ghost use Rattle.press.specs.Said.{said};
 ghost use Rattle.answer.specs.Answers.{said as saidOfReplay};
 ghost use Rattle.report.specs.Report.{fill, pressCode, pressWords, replayCode, replayWords};
-use press::PressAnswer;
 use answer::ReplayAnswer;
+use press::PressAnswer;
 
 // A word of the report, where there is room for it.
 fn put(report: &mut [u64], i: usize, word: u64)

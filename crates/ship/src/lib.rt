@@ -4,11 +4,11 @@ ghost use Rattle.sheet.specs.Editions.{narrow};
 ghost use Rattle.pressing.specs.Press.{press};
 ghost use Rattle.demands.specs.Shipping.{ship};
 ghost use Rattle.ship.specs.Said.{saidOfShipment};
+use answer::ReplayAnswer;
 use press::PressAnswer;
 use press::Pressed;
 use sheet::Reason;
 use sheet::RecordNo;
-use answer::ReplayAnswer;
 
 // The press refused; or what it reported, and what the replay of its output answered.
 pub enum Shipment {

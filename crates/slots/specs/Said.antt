@@ -1,5 +1,4 @@
 -- What the code's values are, and what a step's answer says: the paper's number and values for each case.
-use Prim.Native.Nat.{ℕ}
 use mathlib.Core.Bool.{Bool}
 use mathlib.Core.List.{List, map}
 use Rattle.clause.specs.Denote.{literalsOf}

@@ -73,10 +73,7 @@ pub fn check_record(rules: &[u8], next: NodeNo, seen: Seen, r: Record) -> Verdic
 {
     match r {
         Record::Given { line, clause } => {
-            and_then(
-                checks::check_given(rules, line, clause),
-                check_room(seen),
-            )
+            and_then(checks::check_given(rules, line, clause), check_room(seen))
         }
         Record::Step {
             pivot,

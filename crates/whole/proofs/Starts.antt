@@ -1,6 +1,6 @@
 -- Two files that pass checks 1 to 5 stand whole in the buffers, so pressing their starts is pressing them; and what is accepted fits.
-use Prim.Native.Nat.{ℕ, _+_, _-_, _*_, _/_, _≤_}
-use mathlib.Core.Path.{_≡_, refl, sym, ap, _∙_}
+use Prim.Native.Nat.{ℕ, _*_, _/_, _≤_}
+use mathlib.Core.Path.{_≡_, sym, ap}
 use mathlib.Core.List.{List}
 use native.Mathlib.Omega.{arith}
 use lib.ListN.{length, take}
@@ -9,7 +9,6 @@ use Rattle.sheet.specs.declared.Verdict.{Verdict}
 use Rattle.sheet.specs.declared.Verdict.the-variants as W
 use Rattle.sheet.specs.Editions.{narrow}
 use Rattle.pressing.specs.Judge.{checkPress}
-use Rattle.pressing.specs.Drops.{withDrops}
 use Rattle.pressing.specs.Press.{Outcome, outcome, accepted, pressed, press}
 use Rattle.pressing.proofs.Nodes.{proper-falling}
 use Rattle.pressing.proofs.Drops.{length-withDrops-most}

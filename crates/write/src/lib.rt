@@ -6,12 +6,12 @@ ghost use Rattle.base.specs.Bytes.{put};
 ghost use Rattle.sheet.specs.Editions.{narrow};
 ghost use Rattle.sheet.specs.Fields.{fieldBytes, fieldsFor, recordBytesOf};
 ghost use Rattle.sheet.specs.Denote.{fieldsIn, recordOf};
+use clause::Clause;
+use clause::Set;
+use sheet::Fields;
 use sheet::Record;
 use sheet::RecordNo;
 use sheet::limits;
-use sheet::Fields;
-use clause::Clause;
-use clause::Set;
 
 fn put_fields(d: &mut [u8], at: usize, f: Fields)
     requires { ⌜ at + 24 ≤ length (now d) ⌝ }

@@ -1,5 +1,10 @@
+use mathlib.Core.Path.{_≡_}
+use mathlib.Core.Bool.{Bool, true, false}
 use mathlib.Core.Logic.{⊎-elim}
-use Rattle.clause.specs.Clauses.{holds}
+use Prim.Native.Nat.{ℕ}
+use Rattle.clause.specs.Clauses.{Literals, plus, minus, holds, alike, resolvent}
+use Rattle.sheet.specs.declared.Reason.the-variants.{NotResult}
+use Rattle.sheet.specs.declared.Verdict.the-variants.{Fine}
 use Rattle.sheet.specs.Reasons.{unless}
 use Rattle.sheet.specs.Checks.{checkStep}
 use borrow.Author.Needs.{needs}
@@ -18,35 +23,32 @@ resolve-requires c κs = search needs
 same-requires : tie.Need-same-requires
 same-requires c κs = search needs
 
+-- where both literals are there, the verdict is as the clauses compare
+compared : (p : ℕ) (l r c : Literals) (s : Bool)
+    → holds (plus p) l ≡ true
+    → holds (minus p) r ≡ true
+    → alike c (resolvent p l r) ≡ s
+    → unless s NotResult Fine ≡ checkStep p l r c
+unfolding checkStep unless
+compared p l r c s h₁ h₂ h₃ = simp (h₁, h₂, h₃)
+
 returns : tie.Need-returns
-unfolding checkStep unless holds
+unfolding unless holds
 returns c =
     let if2 = c .before .before .before in
     let if1 = if2 .before .before in
-    simp (
-      ← if1 .before .has .ensures,
-      if1 .if1 .taken,
-      ← if2 .before .has2 .ensures,
-      if2 .if2 .taken,
-      ← c .before .before .resolve .ensures,
-      ← c .before .same .ensures,
-      c .if3 .taken,
-    )
+    let result = c .before .before .resolve .ensures in
+    compared _ _ _ _ true (simp (← if1 .before .has .ensures, if1 .if1 .taken)) (simp (← if2 .before .has2 .ensures, if2 .if2 .taken))
+    (simp (← result, ← c .before .same .ensures, c .if3 .taken))
 
 returns-2 : tie.Need-returns-2
-unfolding checkStep unless holds
+unfolding unless holds
 returns-2 c =
     let if2 = c .before .before .before in
     let if1 = if2 .before .before in
-    simp (
-      ← if1 .before .has .ensures,
-      if1 .if1 .taken,
-      ← if2 .before .has2 .ensures,
-      if2 .if2 .taken,
-      ← c .before .before .resolve .ensures,
-      ← c .before .same .ensures,
-      c .if3 .left,
-    )
+    let result = c .before .before .resolve .ensures in
+    compared _ _ _ _ false (simp (← if1 .before .has .ensures, if1 .if1 .taken)) (simp (← if2 .before .has2 .ensures, if2 .if2 .taken))
+    (simp (← result, ← c .before .same .ensures, c .if3 .left))
 
 returns-3 : tie.Need-returns-3
 unfolding checkStep unless holds

@@ -1,7 +1,6 @@
 use Prim.Native.Nat.{_≤_}
 use lib.ListN.{length}
-use Rattle.sheet.specs.declared.Verdict.{Verdict}
-use mathlib.Core.Path.{sym, ap, ap₂, _∙_}
+use mathlib.Core.Path.{sym, ap₂, _∙_}
 use native.Mathlib.Omega.{arith}
 use Rattle.clause.specs.Clauses.{Literals}
 use Rattle.clause.specs.Denote.{literalsOf}

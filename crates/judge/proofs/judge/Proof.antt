@@ -1,7 +1,7 @@
 use Rattle.judge.proofs.Judging.{lent-record}
 use Rattle.pressing.specs.Judge.{bad}
 use mathlib.Core.Path.{_≡_, refl, sym, ap, _∙_}
-use Prim.Native.Nat.{ℕ, _+_, _*_, _-_, _≤_}
+use Prim.Native.Nat.{_+_, _*_, _-_, _≤_}
 use native.Mathlib.Omega.{arith}
 use lib.ListN.{length, length-take, length-drop}
 use Rattle.tables.specs.Tables.{nodesIn}

@@ -3,7 +3,7 @@ use Rattle.marks.specs.Marking.{LinesBelow}
 use mathlib.Core.Path.{_≡_, refl, sym, ap, _∙_}
 use Prim.Native.Nat.{ℕ, _+_, _-_, _<_, _≤_}
 use native.Mathlib.Omega.{arith}
-use lib.ListN.{length, replicate, length-replicate}
+use lib.ListN.{length}
 use lib.ListN.{drop as after}
 use Rattle.pressing.specs.Drops.{markLines}
 use Rattle.tables.specs.Tables.{nodesIn}

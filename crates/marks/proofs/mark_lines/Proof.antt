@@ -1,13 +1,12 @@
 use lib.ListN.{drop as after}
-use Prim.Native.Nat.{ℕ, _≤_}
-use mathlib.Core.List.{List}
+use Prim.Native.Nat.{ℕ}
 use Rattle.pressing.specs.Drops.{total}
 use Rattle.tables.specs.Tables.{nodesIn}
 use mathlib.Core.Path.{subst}
 use Rattle.marks.specs.Marking.{LinesBelow}
 use Rattle.marks.proofs.Cores.{core-is, core-long, core-each, core-again, core-put}
 use lib.ListN.{length, length-append, length-drop}
-use mathlib.Core.Path.{_≡_, refl, sym, ap, _∙_}
+use mathlib.Core.Path.{sym, ap, _∙_}
 use native.Mathlib.Omega.{arith}
 use lib.Seq.{length-take-le}
 use borrow.Author.Needs.{needs}

@@ -1,11 +1,4 @@
 use Rattle.tables.proofs.Tables.{given-head}
-use mathlib.Core.Path.{_≡_, ap}
-use mathlib.Core.Bool.{Bool, cond}
-use Prim.Native.Nat.{ℕ, _+_, _*_, _/_, _%_, _^_}
-use native.Mathlib.Omega.{arith}
-use borrow.Author.Tests.{ne-eqb}
-use lib.Dec.{eqb}
-use Rattle.tables.specs.Tables.{nodeOf}
 use borrow.Author.Needs.{needs}
 use Rattle.tables.proofs.node.given_head.Statement.{statement}
 use Rattle.tables.proofs.node.given_head.Tie as tie

@@ -1,7 +1,6 @@
-use mathlib.Core.Path.{sym, ap, _∙_}
+use mathlib.Core.Path.{ap, _∙_}
 use Prim.Native.Nat.{ℕ}
 use lib.ListN.{set}
-use Rattle.clause.specs.Denote.{literalsOf}
 use Rattle.tables.specs.Tables.{nodeOf, nodesIn}
 use Rattle.tables.proofs.Tables.{nodes-set}
 use borrow.Author.Needs.{needs}

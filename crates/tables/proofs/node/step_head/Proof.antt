@@ -1,6 +1,5 @@
 use native.Mathlib.Omega.{arith}
 use Rattle.tables.proofs.Tables.{step-head}
-use Rattle.tables.specs.Tables.{nodeOf}
 use borrow.Author.Needs.{needs}
 use Rattle.tables.proofs.node.step_head.Statement.{statement}
 use Rattle.tables.proofs.node.step_head.Tie as tie
