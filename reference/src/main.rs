@@ -1,11 +1,13 @@
 //! `reference cases`, `press`, `shelf`, `stats`, `stream` and `tries`.
 
 use reference::cases::{draw, Size};
+use reference::shelf::Shelf;
 use reference::stream::{self, Entry};
-use reference::{program, shelf, stats, text, tries};
+use reference::{program, stats, text, tries};
 use std::io::{self, Write};
 use std::path::Path;
 use std::process::ExitCode;
+use std::{fs, iter};
 
 const USAGE: &str = "usage:
   reference cases --seed S --count N [--small] [--trace]
@@ -38,9 +40,19 @@ fn main() -> ExitCode {
     }
 }
 
+/// Makes DIR/rules.bin and DIR/sheet.bin of DIR/shelf.txt, and prints the sheet
+/// and, if it is accepted, the pressed one.
 fn make_shelf(dir: &Path) -> Result<(), String> {
-    shelf::write(dir).map_err(|error| format!("cannot write: {error}"))?;
-    let listings = [shelf::sheet(), shelf::pressed()].map(|sheet| shelf::listing(&sheet));
+    let told = dir.join("shelf.txt");
+    let of = |path: &Path, why: String| format!("{}: {why}", path.display());
+    let text = fs::read_to_string(&told).map_err(|error| of(&told, error.to_string()))?;
+    let shelf = Shelf::read(&text).map_err(|why| of(&told, why))?;
+    for (name, bytes) in [("rules.bin", shelf.rules()), ("sheet.bin", shelf.sheet())] {
+        let path = dir.join(name);
+        fs::write(&path, bytes).map_err(|error| of(&path, error.to_string()))?;
+    }
+    let sheets = iter::once(shelf.sheet()).chain(shelf.pressed());
+    let listings: Vec<String> = sheets.map(|sheet| shelf.listing(&sheet)).collect();
     print(&listings.join("\n"))
 }
 
@@ -97,7 +109,7 @@ fn write_stream(dir: &str, entries: &[Entry]) -> Result<(), String> {
     let made = stream::of(entries);
     let write = |name: &str, bytes: &[u8]| {
         let path = Path::new(dir).join(name);
-        std::fs::write(&path, bytes).map_err(|error| format!("{}: {error}", path.display()))
+        fs::write(&path, bytes).map_err(|error| format!("{}: {error}", path.display()))
     };
     write("stdin", &made.stdin)?;
     write("stdout", made.stdout.as_bytes())

@@ -1,148 +1,152 @@
-//! The sample shelf: its rules in words, the claim that a stale node answers,
-//! and a solver's refutation. `reference shelf DIR` writes them as `rules.bin`
-//! and `sheet.bin`, and prints the listings of shelf/README.md.
+//! A shelf in words: its variables, its rules, and a proof. `reference shelf
+//! DIR` makes `rules.bin` and `sheet.bin` of `shelf.txt`, and prints the sheet
+//! and what the press makes of it in the shelf's words.
 
 use crate::clause::{resolve, Clause, Literal};
 use crate::lengths::{room_needed, LINE, RECORD};
 use crate::press::press;
 use crate::proof::Node;
 use crate::record::Record;
-use std::path::Path;
-use std::{fs, io};
-use Made::{Given, Step};
 
-/// Variable v is the v-th word.
-const VARIABLES: [&str; 8] = [
-    "answers", "stale", "relay", "short", "long", "catching", "bypass", "lamp",
-];
+/// A clause's sets have a bit for each of so many variables.
+const VARIABLES: usize = 64;
 
-/// Lines 0 to 6 are the shelf's rules, 7 and 8 the claim.
-const RULES: [&str; 9] = [
-    "-answers +relay",
-    "-relay +short +bypass",
-    "-short +long",
-    "-bypass +long",
-    "-long -stale +catching",
-    "-catching -relay",
-    "-bypass +lamp",
-    "+stale",
-    "+answers",
-];
-
-/// A record as the maker is told it: the clause is looked up or worked out.
-enum Made {
-    Given(usize),
-    Step(&'static str, usize, usize),
+#[derive(Default)]
+pub struct Shelf {
+    variables: Vec<String>,
+    rules: Vec<(String, Clause)>,
+    nodes: Vec<(String, Node)>,
 }
 
-/// Node 5 leads nowhere. Node 6 takes the relay away that the last step takes
-/// away again. Node 11 is used twice.
-const PROOF: [Made; 19] = [
-    Given(8),
-    Given(0),
-    Step("answers", 0, 1),
-    Given(1),
-    Given(6),
-    Step("bypass", 3, 4),
-    Step("relay", 2, 3),
-    Given(4),
-    Given(5),
-    Step("catching", 7, 8),
-    Given(7),
-    Step("stale", 10, 9),
-    Given(2),
-    Step("long", 12, 11),
-    Given(3),
-    Step("long", 14, 11),
-    Step("short", 6, 13),
-    Step("bypass", 16, 15),
-    Step("relay", 2, 17),
-];
-
-pub fn rules() -> Vec<u8> {
-    RULES.iter().flat_map(|line| clause(line).write()).collect()
-}
-
-pub fn sheet() -> Vec<u8> {
-    let mut nodes: Vec<Node> = vec![];
-    for made in &PROOF {
-        let node = match *made {
-            Given(line) => Node::Given {
-                line,
-                clause: clause(RULES[line]),
-            },
-            Step(pivot, left, right) => Node::Step {
-                pivot: variable(pivot),
-                left,
-                right,
-                clause: resolve(variable(pivot), nodes[left].clause(), nodes[right].clause()),
-            },
-        };
-        nodes.push(node);
+impl Shelf {
+    /// The shelf that a text tells, or the first line that it does not.
+    pub fn read(text: &str) -> Result<Shelf, String> {
+        let mut shelf = Shelf::default();
+        for (number, line) in text.lines().enumerate() {
+            let words: Vec<&str> = line.split_whitespace().collect();
+            let told = shelf.tell(&words);
+            told.map_err(|why| format!("line {}: {why}", number + 1))?;
+        }
+        Ok(shelf)
     }
-    let records = nodes.into_iter().map(Record::Node);
-    records.flat_map(|record| record.write()).collect()
-}
 
-pub fn write(dir: &Path) -> io::Result<()> {
-    fs::create_dir_all(dir)?;
-    fs::write(dir.join("rules.bin"), rules())?;
-    fs::write(dir.join("sheet.bin"), sheet())
-}
-
-/// The pressed sheet's bytes.
-pub fn pressed() -> Vec<u8> {
-    let (sheet, rules) = (sheet(), rules());
-    let mut out = vec![0; room_needed(sheet.len() / RECORD)];
-    let mut marks = vec![0; rules.len() / LINE];
-    let pressed = press(&sheet, &rules, &mut out, &mut marks).expect("the shelf is proper");
-    out.truncate(pressed.records * RECORD);
-    out
-}
-
-/// A sheet in the shelf's words, a line for each record. Nodes are numbered.
-pub fn listing(sheet: &[u8]) -> String {
-    let mut text = String::new();
-    let mut next = 0;
-    for bytes in sheet.chunks(RECORD) {
-        match Record::read(bytes).expect("a sheet that was made here") {
-            Record::Drop { node } => text += &format!("    drop {node}\n"),
-            Record::Node(node) => {
-                let from = match &node {
-                    Node::Given { line, .. } => format!("line {line}"),
-                    Node::Step {
-                        pivot, left, right, ..
-                    } => format!("{left}, {right} on {}", VARIABLES[usize::from(*pivot)]),
-                };
-                let line = format!("{next:>2}  {from:<18}  {}", words(node.clause()));
-                text += &format!("{}\n", line.trim_end());
-                next += 1;
+    fn tell(&mut self, words: &[&str]) -> Result<(), String> {
+        match *words {
+            [] => Ok(()),
+            [word, ..] if word.starts_with('#') => Ok(()),
+            ["variables", ref names @ ..] => {
+                self.variables.extend(names.iter().map(|n| n.to_string()));
+                let few = self.variables.len() <= VARIABLES;
+                few.then_some(()).ok_or(format!("over {VARIABLES} words"))
             }
+            ["rule", name, ref literals @ ..] => {
+                let clause: Result<Clause, _> = literals.iter().map(|l| self.literal(l)).collect();
+                add(&mut self.rules, name, clause?)
+            }
+            ["given", name, rule] => {
+                let line = find(&self.rules, rule)?;
+                let clause = self.rules[line].1.clone();
+                add(&mut self.nodes, name, Node::Given { line, clause })
+            }
+            ["step", name, pivot, left, right] => {
+                let pivot = self.variable(pivot)?;
+                let (left, right) = (find(&self.nodes, left)?, find(&self.nodes, right)?);
+                let of = |node: usize| self.nodes[node].1.clause();
+                let clause = resolve(pivot, of(left), of(right));
+                let step = Node::Step {
+                    pivot,
+                    left,
+                    right,
+                    clause,
+                };
+                add(&mut self.nodes, name, step)
+            }
+            _ => Err("no line of this form".to_string()),
         }
     }
-    text
-}
 
-fn clause(text: &str) -> Clause {
-    let literal = |word: &str| match word.split_at(1) {
-        ("+", name) => Literal::Plus(variable(name)),
-        (_, name) => Literal::Minus(variable(name)),
-    };
-    text.split_whitespace().map(literal).collect()
-}
-
-fn variable(name: &str) -> u8 {
-    let found = VARIABLES.iter().position(|&word| word == name);
-    found.expect("a word of the shelf") as u8
-}
-
-fn words(clause: &Clause) -> String {
-    if clause.is_empty() {
-        return "(empty)".to_string();
+    fn variable(&self, name: &str) -> Result<u8, String> {
+        let found = self.variables.iter().position(|word| word == name);
+        found
+            .map(|v| v as u8)
+            .ok_or(format!("{name} is no variable"))
     }
-    let word = |literal: Literal| match literal {
-        Literal::Plus(v) => format!("+{}", VARIABLES[usize::from(v)]),
-        Literal::Minus(v) => format!("-{}", VARIABLES[usize::from(v)]),
-    };
-    clause.literals().map(word).collect::<Vec<_>>().join(" ")
+
+    fn literal(&self, word: &str) -> Result<Literal, String> {
+        match word.split_at_checked(1) {
+            Some(("+", name)) => Ok(Literal::Plus(self.variable(name)?)),
+            Some(("-", name)) => Ok(Literal::Minus(self.variable(name)?)),
+            _ => Err(format!("{word} has neither + nor - in front")),
+        }
+    }
+
+    pub fn rules(&self) -> Vec<u8> {
+        self.rules.iter().flat_map(|(_, c)| c.write()).collect()
+    }
+
+    pub fn sheet(&self) -> Vec<u8> {
+        let record = |(_, node): &(String, Node)| Record::Node(node.clone()).write();
+        self.nodes.iter().flat_map(record).collect()
+    }
+
+    /// The pressed sheet's bytes, if the press accepts.
+    pub fn pressed(&self) -> Option<Vec<u8>> {
+        let (sheet, rules) = (self.sheet(), self.rules());
+        let mut out = vec![0; room_needed(self.nodes.len().max(1))];
+        let mut marks = vec![0; rules.len() / LINE];
+        let pressed = press(&sheet, &rules, &mut out, &mut marks).ok()?;
+        out.truncate(pressed.records * RECORD);
+        Some(out)
+    }
+
+    /// A sheet in the shelf's words, a line for each record. Nodes are numbered.
+    pub fn listing(&self, sheet: &[u8]) -> String {
+        let mut text = String::new();
+        let mut next = 0;
+        for bytes in sheet.chunks(RECORD) {
+            match Record::read(bytes).expect("a sheet that was made here") {
+                Record::Drop { node } => text += &format!("    drop {node}\n"),
+                Record::Node(node) => {
+                    let from = match &node {
+                        Node::Given { line, .. } => format!("line {line}"),
+                        Node::Step {
+                            pivot, left, right, ..
+                        } => format!("{left}, {right} on {}", self.word(*pivot)),
+                    };
+                    let line = format!("{next:>2}  {from:<18}  {}", self.words(node.clause()));
+                    text += &format!("{}\n", line.trim_end());
+                    next += 1;
+                }
+            }
+        }
+        text
+    }
+
+    fn word(&self, variable: u8) -> &str {
+        &self.variables[usize::from(variable)]
+    }
+
+    fn words(&self, clause: &Clause) -> String {
+        if clause.is_empty() {
+            return "(empty)".to_string();
+        }
+        let word = |literal: Literal| match literal {
+            Literal::Plus(v) => format!("+{}", self.word(v)),
+            Literal::Minus(v) => format!("-{}", self.word(v)),
+        };
+        clause.literals().map(word).collect::<Vec<_>>().join(" ")
+    }
+}
+
+fn find<T>(named: &[(String, T)], name: &str) -> Result<usize, String> {
+    let found = named.iter().position(|(known, _)| known == name);
+    found.ok_or(format!("{name} is not told before"))
+}
+
+fn add<T>(named: &mut Vec<(String, T)>, name: &str, told: T) -> Result<(), String> {
+    if find(named, name).is_ok() {
+        return Err(format!("{name} is told twice"));
+    }
+    named.push((name.to_string(), told));
+    Ok(())
 }

@@ -1,6 +1,8 @@
-//! The sample shelf: the committed files, and what its page says of them.
+//! The sample shelf: the committed files, what its page says of them, and how a
+//! shelf is told.
 
-use reference::{program, shelf};
+use reference::program;
+use reference::shelf::Shelf;
 use std::fs;
 use std::path::{Path, PathBuf};
 
@@ -8,23 +10,23 @@ fn committed() -> PathBuf {
     Path::new(env!("CARGO_MANIFEST_DIR")).join("../shelf")
 }
 
+fn told() -> Shelf {
+    Shelf::read(&fs::read_to_string(committed().join("shelf.txt")).unwrap()).unwrap()
+}
+
 #[test]
-fn the_files_are_what_the_maker_makes() {
-    assert_eq!(
-        fs::read(committed().join("rules.bin")).unwrap(),
-        shelf::rules()
-    );
-    assert_eq!(
-        fs::read(committed().join("sheet.bin")).unwrap(),
-        shelf::sheet()
-    );
+fn the_files_are_what_the_text_tells() {
+    let file = |name: &str| fs::read(committed().join(name)).unwrap();
+    assert_eq!(file("rules.bin"), told().rules());
+    assert_eq!(file("sheet.bin"), told().sheet());
 }
 
 #[test]
 fn the_page_lists_both_sheets() {
     let page = fs::read_to_string(committed().join("README.md")).unwrap();
-    for sheet in [shelf::sheet(), shelf::pressed()] {
-        let listing = shelf::listing(&sheet);
+    let shelf = told();
+    for sheet in [shelf.sheet(), shelf.pressed().unwrap()] {
+        let listing = shelf.listing(&sheet);
         let indented: String = listing.lines().map(|l| format!("    {l}\n")).collect();
         assert!(page.contains(&indented), "not on the page:\n{listing}");
     }
@@ -33,10 +35,44 @@ fn the_page_lists_both_sheets() {
 #[test]
 fn the_page_says_what_is_printed() {
     let dir = PathBuf::from(env!("CARGO_TARGET_TMPDIR")).join("shelf");
-    shelf::write(&dir).unwrap();
+    fs::create_dir_all(&dir).unwrap();
+    let shelf = told();
+    fs::write(dir.join("rules.bin"), shelf.rules()).unwrap();
+    fs::write(dir.join("sheet.bin"), shelf.sheet()).unwrap();
     let line = program::run(&dir);
     assert_eq!(line, "ok records 31 nodes 16 steps 8 peak 6 core 8");
-    assert_eq!(fs::read(dir.join("pressed.bin")).unwrap(), shelf::pressed());
+    let pressed = fs::read(dir.join("pressed.bin")).unwrap();
+    assert_eq!(Some(pressed), shelf.pressed());
     let page = fs::read_to_string(committed().join("README.md")).unwrap();
     assert!(page.contains(&format!("    {line}\n")));
+}
+
+#[test]
+fn a_line_that_tells_nothing_is_named() {
+    let why = |text: &str| Shelf::read(text).err().unwrap();
+    let cases = [
+        ("variables a\nrule r +b", "line 2: b is no variable"),
+        (
+            "variables a\nrule r a",
+            "line 2: a has neither + nor - in front",
+        ),
+        ("given n r", "line 1: r is not told before"),
+        ("rule r\n\nrule r", "line 3: r is told twice"),
+        (
+            "rule r\ngiven n r\nstep m a n n",
+            "line 3: a is no variable",
+        ),
+        ("# words\nrules r", "line 2: no line of this form"),
+    ];
+    for (text, expected) in cases {
+        assert_eq!(why(text), expected);
+    }
+    let names: Vec<String> = (0..65).map(|v| format!("v{v}")).collect();
+    let text = format!("variables {}", names.join(" "));
+    assert_eq!(why(&text), "line 1: over 64 words");
+}
+
+#[test]
+fn a_shelf_without_a_proof_is_not_pressed() {
+    assert_eq!(Shelf::read("variables a").unwrap().pressed(), None);
 }
