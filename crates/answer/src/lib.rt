@@ -1,18 +1,14 @@
 // The replay's answer, and the decisions of the whole replay, on values alone.
 ghost use mathlib.Core.Path.{_≡_};
 ghost use mathlib.Core.List.{List};
-ghost use Prim.Native.Nat.{ℕ, _-_};
+ghost use Prim.Native.Nat.{_-_};
 ghost use lib.ListN.{length};
-ghost use Rattle.sheet.specs.Reasons.{numberOf};
-ghost use Rattle.sheet.specs.declared.Reason.{Reason};
-ghost use Rattle.sheet.specs.declared.Verdict.the-variants.{Refused};
 ghost use Rattle.replaying.specs.Slots.{Slot, holding};
 ghost use Rattle.replaying.specs.Step.{tally, state, passes};
-ghost use Rattle.replaying.specs.Step.{refused as stepRefused};
-ghost use Rattle.replaying.specs.Replay.{refused, ending};
+ghost use Rattle.replaying.specs.Replay.{ending};
 ghost use Rattle.slots.specs.Search.{search};
 ghost use Rattle.slots.specs.Said.{saidOfStep, tallyOf, foundOf};
-ghost use Rattle.answer.specs.Answers.{said, isTaken};
+ghost use Rattle.answer.specs.Answers.{said, isTaken, refusedBy, stoppedBy};
 use clause::Clause;
 use sheet::NodeNo;
 use sheet::Reason;
@@ -45,7 +41,7 @@ pub fn passes(verdict: Verdict) -> bool
 
 // Refused by its lengths: "reporting record 0".
 pub fn refused(verdict: Verdict) -> ReplayAnswer
-    ensures { λ r. ⌜ ((why : Reason) → verdict ≡ Refused why → said r ≡ refused (numberOf why) 0) ⌝ }
+    ensures { λ r. ⌜ said r ≡ refusedBy verdict ⌝ }
 {
     match verdict {
         Verdict::Fine => ReplayAnswer::Refused(Reason::Table, RecordNo(0)),
@@ -77,7 +73,7 @@ pub fn is_taken(a: StepAnswer) -> bool
 
 // The replay's answer to a record that is not taken.
 pub fn stopped(a: StepAnswer) -> ReplayAnswer
-    ensures { λ r. ⌜ ((why k : ℕ) → saidOfStep a ≡ stepRefused why k → said r ≡ refused why k) ⌝ }
+    ensures { λ r. ⌜ said r ≡ stoppedBy (saidOfStep a) ⌝ }
 {
     match a {
         StepAnswer::Refused(why, k) => ReplayAnswer::Refused(why, k),

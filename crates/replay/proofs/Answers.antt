@@ -26,17 +26,14 @@ use denote.Triple.Statement.{Contract, Triple}
 use denote.Triple.Spec.{tripleOf}
 use Rattle.lending.proofs.Calls.{call-plain}
 use Rattle.sheet.specs.declared.NodeNo.{NodeNo}
-use Rattle.sheet.specs.declared.Reason.{Reason}
 use Rattle.sheet.specs.declared.Verdict.{Verdict}
-use Rattle.sheet.specs.declared.Verdict.the-variants.{Refused}
-use Rattle.sheet.specs.Reasons.{numberOf}
 use Rattle.sheet.proofs.NodeNo as N
 use Rattle.sheet.proofs.NodeNo.Laws as N′
 use Rattle.sheet.proofs.Verdict as J
 use Rattle.sheet.proofs.Verdict.Laws as J′
 use Rattle.replaying.specs.Slots.{Slot as RowSlot, holding}
-use Rattle.replaying.specs.Step.{state, tally, passes, refused as step-refused}
-use Rattle.replaying.specs.Replay.{refused, ending}
+use Rattle.replaying.specs.Step.{state, tally, passes}
+use Rattle.replaying.specs.Replay.{ending}
 use Rattle.slots.specs.declared.Tally.{Tally}
 use Rattle.slots.specs.declared.Found.{Found}
 use Rattle.slots.specs.declared.StepAnswer.{StepAnswer}
@@ -49,7 +46,7 @@ use Rattle.slots.proofs.Found.Laws as F′
 use Rattle.slots.proofs.StepAnswer as S
 use Rattle.slots.proofs.StepAnswer.Laws as S′
 use Rattle.answer.specs.declared.ReplayAnswer.{ReplayAnswer}
-use Rattle.answer.specs.Answers.{said, isTaken}
+use Rattle.answer.specs.Answers.{said, isTaken, refusedBy, stoppedBy}
 use Rattle.answer.proofs.ReplayAnswer as B
 use Rattle.answer.proofs.ReplayAnswer.Laws as B′
 use Rattle.row.proofs.Cells.{fv}
@@ -109,10 +106,10 @@ module _ {M : Type 1} {𝓤 : URA M} {H : Heap 𝓤} {A : Atoms 𝓤} {K : Type 
 
   pub call-stopped : K → (mem : Memory → SProp 𝓤) (run : Routine → Fun 𝓤) → FmC 𝓤 H (W .laws) C → Triple 𝓤 (C #stopped) (Stopped 𝓤 H A mem run) → (a : StepAnswer) → Is S.the-row a (step-val a ∷ [])
       → Opds K W (raw (Stopped 𝓤 H A mem run .pre ((tt, tt, tt, (a, tt), (step-val a ∷ [], tt)), tt)) ∷ Γ) E xs (step-val a ∷ [])
-      → ((r : ReplayAnswer) → ((why k : ℕ) → saidOfStep a ≡ step-refused why k → said r ≡ refused why k) → Is B.the-row r (answer-val r ∷ []) → Seq K W Γ (lands C Λ E d (answer-val r) rest q))
+      → ((r : ReplayAnswer) → said r ≡ stoppedBy (saidOfStep a) → Is B.the-row r (answer-val r ∷ []) → Seq K W Γ (lands C Λ E d (answer-val r) rest q))
       → Seq K W Γ (runs C Λ E (seq (call #stopped xs d) rest) q)
   call-stopped t mem run fm known a g-a os k =
-      call-plain t fm stopped′.ended (stopped′.clauses 𝓤 H A mem run) known tt tt tt (id⊢ 𝓤 _) (EL.makes S.the-type S′.the-plain 𝓤 H A, tt) answer-val (EL.tells B.the-type B′.the-laws) (a, tt) (step-val a ∷ [], tt) (g-a, tt) tt (id⊢ 𝓤 _) (λ r. (why k : ℕ) → saidOfStep a ≡ step-refused why k → said r ≡ refused why k) (λ r e. id⊢ 𝓤 _) os k
+      call-plain t fm stopped′.ended (stopped′.clauses 𝓤 H A mem run) known tt tt tt (id⊢ 𝓤 _) (EL.makes S.the-type S′.the-plain 𝓤 H A, tt) answer-val (EL.tells B.the-type B′.the-laws) (a, tt) (step-val a ∷ [], tt) (g-a, tt) tt (id⊢ 𝓤 _) (λ r. said r ≡ stoppedBy (saidOfStep a)) (λ r e. id⊢ 𝓤 _) os k
 
   pub call-last : K → (mem : Memory → SProp 𝓤) (run : Routine → Fun 𝓤) → FmC 𝓤 H (W .laws) C → Triple 𝓤 (C #last) (Last-of 𝓤 H A mem run) → (h : Tally) → Is Y.the-row h (tally-val h ∷ [])
       → Opds K W (raw (Last-of 𝓤 H A mem run .pre ((tt, tt, tt, (h, tt), (tally-val h ∷ [], tt)), tt)) ∷ Γ) E xs (tally-val h ∷ [])
@@ -137,7 +134,7 @@ module _ {M : Type 1} {𝓤 : URA M} {H : Heap 𝓤} {A : Atoms 𝓤} {K : Type 
 
   pub call-refused : K → (mem : Memory → SProp 𝓤) (run : Routine → Fun 𝓤) → FmC 𝓤 H (W .laws) C → Triple 𝓤 (C #refused) (Refuses 𝓤 H A mem run) → (v : Verdict) → Is J.the-row v (verdict-val v ∷ [])
       → Opds K W (raw (Refuses 𝓤 H A mem run .pre ((tt, tt, tt, (v, tt), (verdict-val v ∷ [], tt)), tt)) ∷ Γ) E xs (verdict-val v ∷ [])
-      → ((r : ReplayAnswer) → ((why : Reason) → v ≡ Refused why → said r ≡ refused (numberOf why) 0) → Is B.the-row r (answer-val r ∷ []) → Seq K W Γ (lands C Λ E d (answer-val r) rest q))
+      → ((r : ReplayAnswer) → said r ≡ refusedBy v → Is B.the-row r (answer-val r ∷ []) → Seq K W Γ (lands C Λ E d (answer-val r) rest q))
       → Seq K W Γ (runs C Λ E (seq (call #refused xs d) rest) q)
   call-refused t mem run fm known v g-v os k =
-      call-plain t fm refused′.ended (refused′.clauses 𝓤 H A mem run) known tt tt tt (id⊢ 𝓤 _) (EL.makes J.the-type J′.the-plain 𝓤 H A, tt) answer-val (EL.tells B.the-type B′.the-laws) (v, tt) (verdict-val v ∷ [], tt) (g-v, tt) tt (id⊢ 𝓤 _) (λ r. (why : Reason) → v ≡ Refused why → said r ≡ refused (numberOf why) 0) (λ r e. id⊢ 𝓤 _) os k
+      call-plain t fm refused′.ended (refused′.clauses 𝓤 H A mem run) known tt tt tt (id⊢ 𝓤 _) (EL.makes J.the-type J′.the-plain 𝓤 H A, tt) answer-val (EL.tells B.the-type B′.the-laws) (v, tt) (verdict-val v ∷ [], tt) (g-v, tt) tt (id⊢ 𝓤 _) (λ r. said r ≡ refusedBy v) (λ r e. id⊢ 𝓤 _) os k

@@ -4,17 +4,16 @@ use mathlib.Core.Bool.{true, false}
 use mathlib.Core.List.{List}
 use Prim.Native.Nat.{ℕ, _/_}
 use lib.ListN.{length, replicate, length-replicate}
-use Rattle.sheet.specs.declared.Reason.{Reason}
 use Rattle.sheet.specs.declared.Verdict.{Verdict}
 use Rattle.sheet.specs.declared.Verdict.the-variants.{Fine, Refused}
 use Rattle.sheet.specs.Editions.{narrow, replayRecords}
-use Rattle.sheet.specs.Reasons.{numberOf}
 use Rattle.sheet.specs.Checks.{checkLengths}
 use Rattle.replaying.specs.Slots.{Slot as RowSlot, empty, cleared}
 use Rattle.replaying.specs.Step.{state, tally, passes}
-use Rattle.replaying.specs.Replay.{Answer, refused, run, start, outcome, byLengths, replay}
+use Rattle.replaying.specs.Replay.{Answer, run, start, outcome, byLengths, replay}
 use Rattle.slots.specs.declared.Slot.{Slot}
 use Rattle.slots.specs.Said.{rowOf}
+use Rattle.answer.specs.Answers.{refusedBy}
 use Rattle.slots.proofs.Rows.{row-length}
 
 pub fine-is : (v : Verdict) → passes v ≡ true → v ≡ Fine
@@ -35,10 +34,10 @@ module _ (sheet rules : List ℕ) where
   abbrev verdict : Verdict
   verdict = checkLengths narrow (replayRecords narrow) (length sheet) (length rules)
 
-  pub comes-refused : (row : List RowSlot) (v : Verdict) → v ≡ verdict → passes v ≡ false → (a : Answer) → ((why : Reason) → v ≡ Refused why → a ≡ refused (numberOf why) 0) → outcome a row ≡ replay narrow sheet rules row
-  unfolding passes replay byLengths
+  pub comes-refused : (row : List RowSlot) (v : Verdict) → v ≡ verdict → passes v ≡ false → (a : Answer) → a ≡ refusedBy v → outcome a row ≡ replay narrow sheet rules row
+  unfolding passes replay byLengths refusedBy
   comes-refused row Fine e fails a so = cc
-  comes-refused row (Refused why) e fails a so = rw (← e, so why refl)
+  comes-refused row (Refused why) e fails a so = rw (← e, so)
 
   -- the row is cleared, run through, and cleared again
   pub comes-fine : (ys zs₁ zs₂ zs₃ : List Slot) (a : Answer) → passes verdict ≡ true → rowOf zs₁ ≡ cleared (rowOf ys)

@@ -14,9 +14,9 @@ use Rattle.sheet.specs.Fields.{recordAt}
 use Rattle.sheet.proofs.Fine.{Lengths, lengths-fine}
 use Rattle.replaying.specs.Slots.{Slot}
 use Rattle.replaying.specs.Step.{Tally, tally, State, state, Step, taken, unfit, Stepped, stepped, oneStep, refused as step-refused}
-use Rattle.replaying.specs.Replay.{Answer, run, refused, ending}
+use Rattle.replaying.specs.Replay.{run, ending}
 use Rattle.replaying.proofs.Steps.{Within, step-goes-on, step-refuses, step-fits}
-use Rattle.answer.specs.Answers.{isTaken}
+use Rattle.answer.specs.Answers.{isTaken, stoppedBy}
 
 -- after k records the tally is within, and the run goes on from the state then
 pub record Goes (rules sheet : List ℕ) (s₀ : State) (k : ℕ) (s : State) : Type 0 where
@@ -91,17 +91,16 @@ module _ (rules sheet : List ℕ) (s₀ : State) (k : ℕ) (s : State) (g : Goes
         let w = says taken (taken-is a q) in
         rw (e, add-one) (record { within = on 0 w .1; left = λ m o. g .left (suc m) (omega arith) ∙ on m w .0 })
 
-    -- not taken: what a refusal is answered by is the run's answer
-    pub goes-no-more : (r : Answer) → isTaken a ≡ false → ((x j : ℕ) → a ≡ step-refused x j → r ≡ refused x j) → r ≡ run narrow rules sheet (length sheet / 24) 0 s₀
-    unfolding isTaken
-    goes-no-more r q said = by-answer a refl q said
+    -- not taken: what it is stopped by is the run's answer
+    pub goes-no-more : isTaken a ≡ false → stoppedBy a ≡ run narrow rules sheet (length sheet / 24) 0 s₀
+    unfolding isTaken stoppedBy
+    goes-no-more q = by-answer a refl q
       where
-        by-answer : (b : Step) → a ≡ b → isTaken b ≡ false → ((x j : ℕ) → b ≡ step-refused x j → r ≡ refused x j) → r ≡ run narrow rules sheet (length sheet / 24) 0 s₀
-        by-answer taken e z f = cc
-        by-answer (step-refused x j) e z f =
+        by-answer : (b : Step) → a ≡ b → isTaken b ≡ false → stoppedBy b ≡ run narrow rules sheet (length sheet / 24) 0 s₀
+        by-answer taken e z = cc
+        by-answer (step-refused x j) e z =
             let m = length sheet / 24 - suc k in
-            f x j refl
-            ∙ sym
+            sym
             (g .left (suc m) (omega arith)
             ∙ step-refuses narrow sheet rules (length sheet / 24) lengths k h s (g .within) m x j (says (step-refused x j) e))
-        by-answer unfit e z f = absurd (step-fits narrow sheet rules (length sheet / 24) lengths k h s (g .within) (says unfit e))
+        by-answer unfit e z = absurd (step-fits narrow sheet rules (length sheet / 24) lengths k h s (g .within) (says unfit e))

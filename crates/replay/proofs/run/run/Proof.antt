@@ -243,7 +243,7 @@ module _ {M : Type 1} (𝓤 : URA M) (H : Heap 𝓤) (A : Atoms 𝓤) (W : Given
           -- [obs 0; the borrow 1; the token 2; the tally 3; sheet's token 4; rules's 5; what sheet owns; what rules owns; locals]
           move ! (6 ∷ []) $ drop ! $ move ! (6 ∷ []) $ drop ! $ move ! (3 ∷ []) $ settled ! Y.the-row (tyAt (code.function .locals) 5) (λ v b. refl) tally-val (LL.tells Y.the-type Y′.the-laws) t l₅ (λ gt.
           returns-within ! Post refl (look ! 57 refl) $
-          lets-go zs t (length (i .zs)) (i .k) a (same ∙ i .same) (goes-no-more (rules .now) (sheet .now) s₀ (i .k) s (i .goes) less fine (saidOfStep r) (state (tallyOf t) (rowOf zs)) e (said a) (sym e-c ∙ is-false c not-it) e-a) ga))))
+          lets-go zs t (length (i .zs)) (i .k) a (same ∙ i .same) (e-a ∙ goes-no-more (rules .now) (sheet .now) s₀ (i .k) s (i .goes) less fine (saidOfStep r) (state (tallyOf t) (rowOf zs)) e (sym e-c ∙ is-false c not-it)) ga))))
         where
           s : State
           s = state (tallyOf (i .t)) (rowOf (i .zs))
