@@ -4,7 +4,7 @@
 Writes a scratch repository (the crates, and one crate more whose statements are the cases) outside the tree and checks it. A case is
 right if the answer, every byte of output and marks, every slot, and the tally and the slots after each record are what the second
 program says."""
-import argparse, os, pathlib, shutil, subprocess, sys, tempfile
+import argparse, pathlib, shutil, subprocess, sys, tempfile
 
 ROOT = pathlib.Path(__file__).resolve().parent.parent
 BATCH = 25

@@ -1,7 +1,7 @@
 """The cases of program.py."""
 import errno, os, struct, subprocess, threading, time
 
-from harness import FOLDER, PART, Link, can_fail, failing, file_limit, no_output
+from folders import FOLDER, PART, Link, can_fail, failing, file_limit, no_output
 
 OLD = b"old" * 167  # 501 bytes, longer than what is written over it here
 

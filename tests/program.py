@@ -8,7 +8,7 @@ import argparse, os, pathlib, shutil, subprocess, sys, tempfile
 
 sys.dont_write_bytecode = True
 sys.path.insert(0, str(pathlib.Path(__file__).resolve().parent))
-import cases, harness
+import cases, folders
 
 ROOT = pathlib.Path(__file__).resolve().parent.parent
 NOBODY = 65534
@@ -48,7 +48,7 @@ def small_disk(room):
 
 
 def run_cases(room, disk, seed, count):
-    tests = harness.Tests(program_words(room), room / "reference", room / "work")
+    tests = folders.Tests(program_words(room), room / "reference", room / "work")
     cases.run_all(tests, disk)
     cases.compare(tests, seed, count)
     return tests.finish()

@@ -1,13 +1,14 @@
 #!/usr/bin/env python3
 """promises.py [--write]: what every public function promises, and that nothing in the tree is silent, too long or uncited.
 
-Lists each `pub fn` of crates/*/src with what it asks for and the definitions that its contract equates it with, and holds docs/CONTRACTS.md
-to that list (--write makes the page anew). It is an error if
+Lists each `pub fn` of crates/*/src with its contract, but for those of private modules, and holds docs/CONTRACTS.md to that list (--write makes the
+page anew). It is an error if
   - a public function has no `ensures` with an equation, has one under a condition, or has a `requires`, and docs/PROMISES.md does not name it
     among the exceptions;
-  - a public function's `ensures` says of memory that it is lent nothing, or its length alone, and docs/PROMISES.md does not say why;
+  - a public function's `ensures` says of memory that it is lent nothing, its length alone, or only what a view of it shows, and docs/PROMISES.md
+    does not say why;
   - a definition of crates/*/specs is named nowhere but where it is made;
-  - docs/PROMISES.md names a must-fail edit that is not there, or names one that is there in no row;
+  - docs/PROMISES.md names a must-fail edit that is not there, or names one that is there in no row, or an edit's text is not once in its file;
   - a function is over 40 lines or a file of crates/ over 400.
 The last line is 'N passed, 0 failed'."""
 import pathlib, re, sys
@@ -19,15 +20,18 @@ FUNCTION_LINES, FILE_LINES = 40, 400
 
 HEAD = """# Contracts
 
-Made by `tests/promises.py --write`, and held to the tree by `.ci/run`. Every public function of every crate: what it asks for (nothing, unless
-it says so), and the definitions in whose terms its `ensures` fixes the answer and every lent slice. The contract itself stands above the
-function's body. A function whose contract is an equation is fixed by it: nothing else would satisfy it. What is no equation, or asks for
-something, is listed with its reason in [PROMISES](PROMISES.md); so is an equation under a condition.
+Made by `tests/promises.py --write`, and held to the tree by `.ci/run`. Every public function of every crate with its contract: what it asks for
+(nothing, unless a `requires` says so), what it answers and what the memory that it is lent then holds. A contract that is an equation of the answer and
+of all that is lent fixes both: nothing else would satisfy it. Where it is none, stands under a condition, asks for something, or says of lent memory
+only what a view of it shows, the function is listed with its reason in [PROMISES](PROMISES.md).
 """
+
+# What shows a part of the memory that it is of: the nodes behind words, the reached nodes' sets, a part.
+VIEWS = r"nodesIn|reachesIn|orderIn|judgedIn|take|length"
 
 
 def functions(path):
-    """Of each function of a source file: name, whether it is public, its lines, its clauses, what it is lent by `&mut`."""
+    """Of each function of a source file: name, whether it is public, where it begins, its lines, its clauses, what it is lent by `&mut`."""
     lines = path.read_text().split("\n")
     at = 0
     while at < len(lines):
@@ -43,7 +47,7 @@ def functions(path):
             head.append(line)
         clauses = {kind: [l for l in head if l.strip().startswith(kind)] for kind in ("requires", "ensures")}
         lent = re.findall(r"(\w+): &mut", "\n".join(l for l in head if not l.strip().startswith(("requires", "ensures"))))
-        yield found[2], bool(found[1]), end + 1 - at, clauses, lent
+        yield found[2], bool(found[1]), at + 1, end + 1 - at, clauses, lent
         at = end + 1
 
 
@@ -53,13 +57,10 @@ def path_of(path):
     return "::".join([crate, *(m for m in module if m not in ("lib", "main"))])
 
 
-def definitions_of(path):
-    """The names that a source file brings in from specs."""
-    names = set()
-    for line in re.findall(r"ghost use Rattle·[^;]*specs\.[^;]*\{([^}]*)\};", path.read_text()):
-        for name in line.split(","):
-            names.add(name.split(" as ")[-1].strip())
-    return names
+def private(path):
+    """Whether a source file is a module that its crate's root declares without `pub`."""
+    roots = [path.parent / name for name in ("lib.rt", "main.rt") if (path.parent / name).exists()]
+    return any(re.search(rf"^mod {path.stem};", root.read_text(), re.M) for root in roots)
 
 
 def exceptions():
@@ -88,9 +89,9 @@ def conditional(ensures):
 
 
 def left_open(ensures, lent):
-    """Whether a parameter lent by `&mut` has no last value in any clause, but for its length."""
-    text = re.sub(r"length \(now \(«?\w+»? \.exit\)\)", "", "\n".join(ensures))
-    return any(not re.search(rf"now \(«?{p}»? \.exit\)", text) for p in lent)
+    """Whether a parameter lent by `&mut` has its last value in no clause but under a view."""
+    seen = re.sub(rf"(?:{VIEWS})(?: \(now \(«?\w+»? \.\w+\)\))+|take \w+ \(now \(«?\w+»? \.exit\)\)", "", "\n".join(ensures))
+    return any(not re.search(rf"now \(«?{p}»? \.exit\)", seen) for p in lent)
 
 
 def uncited():
@@ -115,35 +116,48 @@ def edits():
             for crate, labels in re.findall(r"\b(\w+): (\w+(?:, \w+)*)", row.split("|")[-2]):
                 if (CRATES / crate).is_dir():
                     told |= {e for e in there if e[0] == crate} if labels == "all" else {(crate, l) for l in labels.split(", ")}
+    for path in sorted(CRATES.glob("*/must-fail/*.edit")):
+        name, old, texts = "", "", {}
+        for line in path.read_text().split("\n"):
+            kind, _, rest = line.partition(": ")
+            if kind == "file":
+                name = rest
+                texts.setdefault(name, (path.parent.parent / name).read_text())
+            elif kind == "old":
+                old = rest
+                if texts[name].count(old) != 1:
+                    yield f"{path.relative_to(ROOT)}: its text is {texts[name].count(old)} times in {name}"
+            elif kind == "new":
+                texts[name] = texts[name].replace(old, rest, 1)
     yield from (f"docs/PROMISES.md names the edit {c}: {l}, which is not there" for c, l in sorted(told - there))
     yield from (f"no row of docs/PROMISES.md names the edit {c}: {l}" for c, l in sorted(there - told))
 
 
 def main():
-    wrong, rows, checked = [], [], 0
+    wrong, page, checked = [], HEAD, 0
     allowed = exceptions()
     for path in sorted(CRATES.glob("*/src/**/*.rt")):
-        known = definitions_of(path)
-        for name, public, length, clauses, lent in functions(path):
+        if not private(path) and any(public for _, public, *_ in functions(path)):
+            page += f"\n## {path_of(path)}\n"
+        for name, public, at, length, clauses, lent in functions(path):
             function = f"{path_of(path)}::{name}"
             checked += 1
             if length > FUNCTION_LINES:
                 wrong.append(f"{function} has {length} lines")
-            if not public:
+            if not public or private(path):
                 continue
             text = "\n".join(clauses["ensures"])
-            cited = sorted(n for n in known if re.search(r"(?<![\w.·-])" + re.escape(n) + r"(?![\w-])", text))
-            if "≡" not in text and not named(function, allowed["equation"]):
-                wrong.append(f"{function} is fixed by no equation, and docs/PROMISES.md does not say why")
-            if conditional(clauses["ensures"]) and not named(function, allowed["condition"]):
-                wrong.append(f"{function} is fixed under a condition, and docs/PROMISES.md does not say why")
-            if left_open(clauses["ensures"], lent) and not named(function, allowed["lent"]):
-                wrong.append(f"{function} leaves lent memory open, and docs/PROMISES.md does not say why")
-            if clauses["requires"] and not named(function, allowed["requires"]):
-                wrong.append(f"{function} has a requires, and docs/PROMISES.md does not say why")
-            equation = "" if "≡" not in text else "≡ under a condition" if conditional(clauses["ensures"]) else "≡"
-            rows.append((function, "yes" if clauses["requires"] else "", equation, ", ".join(f"`{c}`" for c in cited)))
-    page = HEAD + "\n| function | asks | equation | over |\n|---|---|---|---|\n" + "".join(f"| `{f}` | {a} | {e} | {c} |\n" for f, a, e, c in sorted(rows))
+            faults = {
+                "equation": ("≡" not in text, "is fixed by no equation"),
+                "condition": (conditional(clauses["ensures"]), "is fixed under a condition"),
+                "lent": (left_open(clauses["ensures"], lent), "leaves lent memory open"),
+                "requires": (bool(clauses["requires"]), "has a requires"),
+            }
+            for kind, (there, what) in faults.items():
+                if there and not named(function, allowed[kind]):
+                    wrong.append(f"{function} {what}, and docs/PROMISES.md does not say why")
+            contract = "".join(f"    {clause.strip()}\n" for clause in [*clauses["requires"], *clauses["ensures"]])
+            page += f"\n[`{name}`](../{path.relative_to(ROOT)}#L{at})" + (f"\n\n{contract}" if contract else ": no contract\n")
     if sys.argv[1:] == ["--write"]:
         PAGE.write_text(page)
     elif not PAGE.exists() or PAGE.read_text() != page:

@@ -130,7 +130,7 @@ pub fn replay_alike(
     Ok(theirs)
 }
 
-/// "Pressed output replayed at the peak and one below."
+/// The pressed output replayed at the peak and one below.
 fn pressed_alike(
     rng: &mut Rng,
     out: &[u8],

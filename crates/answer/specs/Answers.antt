@@ -20,7 +20,7 @@ isTaken taken = true
 isTaken (stepRefused why k) = false
 isTaken unfit = false
 
--- refused by its lengths, "reporting record 0"; of lengths that pass it is not asked
+-- refused by its lengths, "and report record 0"; of lengths that pass it is not asked
 unfoldable pub refusedBy : Verdict → Answer
 refusedBy D.Fine = refused (numberOf Table) 0
 refusedBy (D.Refused why) = refused (numberOf why) 0

@@ -18,6 +18,7 @@ use slots::Found;
 use slots::StepAnswer;
 use slots::Tally;
 
+// "An accepted replay returns .." these.
 pub struct Replayed {
     pub conclusion: Clause,
     pub nodes: u16,
@@ -39,7 +40,7 @@ pub fn passes(verdict: Verdict) -> bool
     }
 }
 
-// Refused by its lengths: "reporting record 0".
+// Refused by its lengths, "and report record 0". Of lengths that pass it is not asked: a walk cannot take a verdict apart.
 pub fn refused(verdict: Verdict) -> ReplayAnswer
     ensures { λ r. ⌜ said r ≡ refusedBy verdict ⌝ }
 {
@@ -71,7 +72,7 @@ pub fn is_taken(a: StepAnswer) -> bool
     }
 }
 
-// The replay's answer to a record that is not taken.
+// The replay's answer to a record that is refused; of any other it is not asked.
 pub fn stopped(a: StepAnswer) -> ReplayAnswer
     ensures { λ r. ⌜ said r ≡ stoppedBy (saidOfStep a) ⌝ }
 {

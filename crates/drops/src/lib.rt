@@ -67,7 +67,7 @@ fn emit_last(
 }
 
 // Node k, and the drops of what it names last: two of them by rising number.
-pub fn emit_turn(
+fn emit_turn(
     heads: &[u64],
     positives: &[u64],
     negatives: &[u64],

@@ -1,5 +1,5 @@
-// Judging: "Checks 1 to 5 come first, in number order. Then records in order: the first bad record answers, with the smallest number that
-// applies."
+// Judging: "Checks 1 to 5 come first, in number order, and report record 0. Then records in order: the first bad record answers, with the
+// smallest number that applies."
 ghost use mathlib.Core.Path.{_≡_};
 ghost use Prim.Native.Nat.{_+_, _*_, _<_, _≤_};
 ghost use mathlib.Core.List.{List};
@@ -21,6 +21,7 @@ use sheet::RecordNo;
 use sheet::Verdict;
 use tables::node;
 
+// Every record is as it should be; or the first that is not, and why.
 pub enum Judgement {
     Proper,
     Bad(Reason, RecordNo),

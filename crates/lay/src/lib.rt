@@ -48,12 +48,13 @@ fn lay_node(
             let r = number_of(numbers, right);
             node::put_step(heads2, positives2, negatives2, k, pivot, l, r, clause);
         }
+        // the tables hold no drops
         Record::Drop(_) => {}
     }
 }
 
 // The nodes of an order, the oldest first.
-pub fn lay(
+fn lay(
     heads: &[u64],
     positives: &[u64],
     negatives: &[u64],

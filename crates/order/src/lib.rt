@@ -58,7 +58,7 @@ fn put_next(n: NodeNo, numbers: &mut [u16], order: &mut [u16], next: u16) -> u16
 }
 
 // Places node n, after its premises. "A parent's number in step 4 is always smaller than its child's": the node number falls at each call.
-pub fn place(
+fn place(
     heads: &[u64],
     positives: &[u64],
     negatives: &[u64],

@@ -8,8 +8,9 @@ use sheet::Reason;
 use sheet::RecordNo;
 use sheet::Verdict;
 
-pub mod passes;
+mod passes;
 
+// "An accepted press returns .." these, beside output and marks.
 pub struct Pressed {
     pub conclusion: Clause,
     pub records: u16,

@@ -13,7 +13,8 @@ pub data Reach : Type 0 where
   unreached : Reach
   reached : Literals → Reach
 
--- How a set is fitted to the node that it is handed to, which was unreached or reached before.
+-- How a set is fitted to the node that it is handed to, which was unreached or reached before. Document 01's rule, `reset`, has no use for what the
+-- node had before; it stands here so that a rule that joins what several uses hand over is another `Fit` and no other pass.
 abbrev pub Fit : Type 0
 Fit = ℕ → Reach → Literals → Literals
 
@@ -27,11 +28,12 @@ hand fit n S table = set table n (reached (fit n (getD table n unreached) S))
 pub data Cut : Type 0 where
   cutLeft cutRight uncut : Cut
 
--- "If -p is in S, the left edge is cut; else if +p is in S, the right edge is cut."
+-- "If -p is in S, the left edge is cut ..; else if +p is in S, the right edge is cut .."
 unfoldable pub cutOf : ℕ → Literals → Cut
 cutOf p S = cond (holds (minus p) S) cutLeft (cond (holds (plus p) S) cutRight uncut)
 
--- "The right parent gets S; the left parent gets S; else left gets S with +p, right gets S with -p."
+-- "The left edge is cut and the right parent gets S; .. the right edge is cut and the left parent gets S; else left gets S with +p, right gets S
+-- with -p."
 unfoldable pub handOn : Fit → Cut → ℕ → ℕ → ℕ → Literals → List Reach → List Reach
 handOn fit cutLeft p l r S table = hand fit r S table
 handOn fit cutRight p l r S table = hand fit l S table

@@ -28,7 +28,7 @@ trimmed [] kept = []
 trimmed (n ∷ s) [] = []
 trimmed (n ∷ s) (k ∷ kept) = let rest = trimmed s kept in cond (eqb k 0) rest (n ∷ rest)
 
--- "Uses of a node are the places naming it, so one step naming it twice counts two."
+-- "Uses of a node are the places naming it in the trimmed sheet, so one step naming it twice counts two."
 unfoldable pub naming : ℕ → ℕ → ℕ
 naming n m = cond (eqb n m) 1 0
 

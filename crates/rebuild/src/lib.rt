@@ -19,6 +19,7 @@ use sheet::Record;
 use tables::clear;
 use tables::node;
 
+// What becomes of a step.
 pub enum Way {
     TakeLeft,
     TakeRight,

@@ -19,13 +19,14 @@ use tables::node;
 
 pub mod reach;
 
+// The edge of a step that is cut.
 pub enum Cut {
     Left,
     Right,
     None,
 }
 
-// "If -p is in S, the left edge is cut; else if +p is in S, the right edge is cut."
+// "If -p is in S, the left edge is cut ..; else if +p is in S, the right edge is cut .."
 pub fn cut_of(p: u8, s: Clause) -> Cut
     ensures { λ r. ⌜ cutIn r ≡ cutOf p (literalsOf s) ⌝ }
 {
@@ -77,7 +78,8 @@ fn hand(uses: &[u16], n: NodeNo, s: Clause, marks: &mut [u8], plus: &mut [u64], 
     reach::put_reach(marks, plus, minus, n, fitted(uses[i], s));
 }
 
-// "The right parent gets S; the left parent gets S; else left gets S with +p, right gets S with -p."
+// "The left edge is cut and the right parent gets S; .. the right edge is cut and the left parent gets S; else left gets S with +p, right
+// gets S with -p."
 fn hand_on(
     uses: &[u16],
     p: u8,

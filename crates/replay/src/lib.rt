@@ -7,7 +7,7 @@ ghost use Rattle.answer.specs.Answers.{said};
 use slots::Slot;
 
 pub mod own;
-pub mod run;
+mod run;
 
 // The whole replay: checks 1 to 4, a clear row, record by record, and a clear row again.
 pub fn replay(sheet: &[u8], rules: &[u8], slots: &mut [Slot]) -> answer::ReplayAnswer

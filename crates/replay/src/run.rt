@@ -1,4 +1,4 @@
-// "The records of the sheet, one after another": the iteration of the one step, with a tally of its own.
+// The records of the sheet, one after another: the iteration of the one step, with a tally of its own.
 ghost use mathlib.Core.Path.{_≡_};
 ghost use Prim.Native.Nat.{_/_};
 ghost use lib.ListN.{length};

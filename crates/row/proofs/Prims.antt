@@ -83,7 +83,7 @@ module _ {M : Type 1} (𝓤 : URA M) (H : Heap 𝓤) (A : Atoms 𝓤) (at-mem : 
   abbrev pub Clear : Contract 𝓤
   Clear = tripleOf 𝓤 H A clear.signature (clear.spec 𝓤 H A at-mem run)
 
-  -- `step::empty`, which two of the walks call
+  -- `slots::empty`, which two of the walks call
   abbrev pub Empty : Contract 𝓤
   Empty = tripleOf 𝓤 H A empty′.signature (empty′.spec 𝓤 H A at-mem run)
 

@@ -1,4 +1,4 @@
-// The lent row of slots: find, put and free are all that touches it.
+// The lent row of slots: looked through, put into, freed and cleared here, and nowhere else.
 ghost use mathlib.Core.Path.{_≡_};
 ghost use lib.ListN.{set, getD};
 ghost use Rattle.replaying.specs.Slots.{empty, cleared};

@@ -1,5 +1,4 @@
-// The bytes of a sheet: three kinds of record, four kinds of number, rule lines, limits, the reasons of refusal, and the checks that
-// press and replay share.
+// What a sheet is made of: four kinds of number, three kinds of record and their columns, limits, the reasons of refusal.
 ghost use mathlib.Core.Path.{_≡_};
 ghost use Rattle.sheet.specs.Reasons.{numberOf};
 use clause::Clause;

@@ -1,4 +1,4 @@
-// One step of the replay, over a lent row of slots and a lent tally.
+// One step of the replay, over a lent row of slots; the running tally is lent to each step and changed in place.
 ghost use mathlib.Core.Path.{_≡_};
 ghost use Rattle.sheet.specs.Editions.{narrow};
 ghost use Rattle.replaying.specs.Step.{state, stepped, oneStep};

@@ -25,12 +25,12 @@ reachOf mark p q = cond (eqb mark 0) unreached (reached (literals p q))
 unfoldable pub reachesIn : List ℕ → List ℕ → List ℕ → List Reach
 reachesIn marks positives negatives = zip3 reachOf marks positives negatives
 
--- a step's pivot is a variable, and its parents are smaller than it
+-- a given's line is one that a table can have; a step's pivot is a variable, and its parents are smaller than it
 abbrev pub Sound : ℕ → Node → Type 0
 Sound n (given line c) = line < 1024
 Sound n (step p l r c) = (p < 64) × (l < n) × (r < n)
 
--- three tables of one length, of sound nodes
+-- three tables of one length, of at most 512 nodes, all sound
 pub record Nodes (heads positives negatives : List ℕ) : Type 0 where
   pub plus : length positives ≡ length heads
   pub minus : length negatives ≡ length heads

@@ -1,5 +1,5 @@
-// The press's tables: nodes as three words, and the two counts that both halves of the press take of them.
+// The press's tables: nodes as three words; the trim and the uses, which both halves of the press take of them.
 pub mod clear;
 pub mod node;
-pub mod trim;
+mod trim;
 pub mod uses;

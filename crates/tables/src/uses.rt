@@ -48,13 +48,7 @@ fn use_turn(
     add_uses(counts, left, right);
 }
 
-pub fn count_uses(
-    heads: &[u64],
-    positives: &[u64],
-    negatives: &[u64],
-    kept: &[u8],
-    counts: &mut [u16],
-)
+fn count_uses(heads: &[u64], positives: &[u64], negatives: &[u64], kept: &[u8], counts: &mut [u16])
     requires { ⌜ Nodes (now heads) (now positives) (now negatives) ⌝ }
     requires { ⌜ (length (now kept) ≡ length (now heads)) × (length (now counts) ≡ length (now heads)) ⌝ }
     ensures { λ _. ⌜ ((m : ℕ) → getD (now (counts .exit)) m 0 ≡ uses (trimmed (nodesIn (now (heads .entry)) (now (positives .entry)) (now (negatives .entry))) (now (kept .entry))) m) ⌝ }

@@ -1,4 +1,4 @@
-// The decisions of one step, on values alone.
+// What is wrong with a record that reads (9 to 15), the tally after one that is taken, and whether a step is lent what a replay has.
 ghost use mathlib.Core.Path.{_≡_};
 ghost use Prim.Native.Nat.{_+_, _-_, _<_, _≤_, max};
 ghost use Rattle.sheet.specs.Reasons.{andThen};
@@ -33,7 +33,7 @@ pub fn names_in(r: Record) -> Names
 }
 
 // 9: named node isn't earlier. 10: named node was dropped.
-pub fn check_names(next: NodeNo, ns: Names, seen: Seen) -> Verdict
+fn check_names(next: NodeNo, ns: Names, seen: Seen) -> Verdict
     ensures { λ v. ⌜ v ≡ checkNames (next .0) (namesOf ns) (seenIn seen) ⌝ }
 {
     let left = ns.left;
@@ -48,7 +48,7 @@ pub fn check_names(next: NodeNo, ns: Names, seen: Seen) -> Verdict
 }
 
 // 15: node record, and every slot holds a node.
-pub fn check_room(seen: Seen) -> Verdict
+fn check_room(seen: Seen) -> Verdict
     ensures { λ v. ⌜ v ≡ checkRoom (seenIn seen) ⌝ }
 {
     if seen.roomy {
@@ -58,7 +58,7 @@ pub fn check_room(seen: Seen) -> Verdict
 }
 
 // The first of two verdicts that refuses.
-pub fn and_then(v: Verdict, rest: Verdict) -> Verdict
+fn and_then(v: Verdict, rest: Verdict) -> Verdict
     ensures { λ w. ⌜ w ≡ andThen v rest ⌝ }
 {
     match v {
