@@ -33,7 +33,7 @@ pub fn with(s: Set, v: u8) -> Set
     s
 }
 
-fn without(s: Set, v: u8) -> Set
+pub fn without(s: Set, v: u8) -> Set
     ensures { λ r. ⌜ setOf r ≡ without v (setOf s) ⌝ }
 {
     if v < 64 {
@@ -42,7 +42,7 @@ fn without(s: Set, v: u8) -> Set
     s
 }
 
-fn union(a: Set, b: Set) -> Set
+pub fn union(a: Set, b: Set) -> Set
     ensures { λ r. ⌜ setOf r ≡ union (setOf a) (setOf b) ⌝ }
 {
     Set(a.0 | b.0)
@@ -60,7 +60,7 @@ pub fn subset(a: Set, b: Set) -> bool
     a.0 | b.0 == b.0
 }
 
-fn equal(a: Set, b: Set) -> bool
+pub fn equal(a: Set, b: Set) -> bool
     ensures { λ r. ⌜ r ≡ eqb (setOf a) (setOf b) ⌝ }
 {
     a.0 == b.0
