@@ -7,6 +7,7 @@ page anew). It is an error if
     among the exceptions;
   - a public function's `ensures` says of memory that it is lent nothing, its length alone, or only what a view of it shows, and docs/PROMISES.md
     does not say why;
+  - one of the three promises of which the demands say that nothing else satisfies it is not the contract's own equation;
   - a definition of crates/*/specs is named nowhere but where it is made;
   - docs/PROMISES.md names a must-fail edit that is not there, or names one that is there in no row, or an edit's text is not once in its file;
   - a function is over 40 lines or a file of crates/ over 400.
@@ -107,6 +108,20 @@ def uncited():
                 yield f"{path.relative_to(ROOT)}: {name} is cited nowhere"
 
 
+def retold():
+    """The promises in the demands that are not their functions' contracts, word for word but for brackets and the names of modules and parameters."""
+    demands = (CRATES / "demands/specs/Demands.antt").read_text()
+    for crate, promise in (("press", "PressPromise"), ("replay", "ReplayPromise"), ("step", "StepPromise")):
+        statement = re.search(rf"^{promise} [^=]*=(.*?)\n\n", demands, re.M | re.S)[1]
+        contract = re.search(r"^    ensures \{ λ r\. ⌜(.*)⌝ \}", (CRATES / crate / "src/lib.rt").read_text(), re.M)[1]
+        contract = re.sub(r"now \((\w+) \.entry\)", r"\1", re.sub(r"now \((\w+) \.exit\)", r"\1′", contract))
+        for old, new in ((r"\bnarrow\b", "e"), (r"number \.0", "k"), (r"\btally(?=′|\b)", "t")):
+            contract = re.sub(old, new, contract)
+        words = [re.sub(r"\b[A-Z]\w*\.|[()]", "", text).split() for text in (statement, contract)]
+        if words[0] != words[1]:
+            yield f"{promise} of the demands is not the contract of {crate}::{crate}"
+
+
 def edits():
     """Must-fail edits that a row of docs/PROMISES.md names (`crate: label, label`, or `crate: all`) and the tree lacks, and the other way round."""
     there = {(p.parts[-3], p.stem) for p in CRATES.glob("*/must-fail/*.edit")}
@@ -167,7 +182,7 @@ def main():
         count = path.read_text().count("\n")
         if count > FILE_LINES:
             wrong.append(f"{path.relative_to(ROOT)} has {count} lines")
-    wrong += [*uncited(), *edits()]
+    wrong += [*uncited(), *edits(), *retold()]
     checked += len(list(CRATES.glob("*/must-fail/*.edit")))
     for line in wrong:
         print(line)
