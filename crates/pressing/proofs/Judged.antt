@@ -1,6 +1,6 @@
 -- What judging lets through is proper, and what is proper it lets through.
 use Prim.Native.Nat.{ℕ, zero, suc, _+_, _/_, _<_}
-use mathlib.Core.Bool.{Bool, true, false, _&&_, cond, and-eq-true-iff}
+use mathlib.Core.Bool.{Bool, true, false, _&&_, cond}
 use mathlib.Core.Path.{_≡_, refl, sym, ap, _∙_}
 use mathlib.Core.List.{List, [], _∷_, _++_}
 use native.Mathlib.Omega.{arith}
@@ -8,20 +8,18 @@ use native.Mathlib.Decide.{ℕ-discrete}
 use lib.Dec.{eqb, ltb}
 use lib.ListN.{length, take}
 use lib.Seq.{length-take-le, take-suc, take-length, getD-take}
-use borrow.Author.Tests.{ltb-true, lt-ltb}
-use Rattle.clause.specs.Clauses.{plus, minus, holds, alike, resolvent}
-use Rattle.clause.proofs.Clauses.{alike-same, alike-self}
+use borrow.Author.Tests.{ltb-true}
 use Rattle.sheet.specs.declared.Reason.{Reason}
-use Rattle.sheet.specs.declared.Reason.the-variants.{Kind, Pivot, PivotMissing, NotResult, NoLine, LineDiffers}
+use Rattle.sheet.specs.declared.Reason.the-variants.{Kind, Pivot}
 use Rattle.sheet.specs.declared.Verdict.{Verdict}
 use Rattle.sheet.specs.declared.Verdict.the-variants.{Fine, Refused}
 use Rattle.sheet.specs.Editions.{Edition, variables, recordBytes}
 use Rattle.sheet.specs.Records.{Node, given, step, node, drop, Reading, reads, unread, clause, nodeAt}
-use Rattle.sheet.specs.Fields.{Fields, fieldsOf, whenZero, readGiven, readStep, readDrop, readFields, reading, recordAt, ruleLines, ruleLine}
-use Rattle.sheet.specs.Checks.{checkEarlier, checkStep, checkGiven}
+use Rattle.sheet.specs.Fields.{Fields, fieldsOf, whenZero, readGiven, readStep, readDrop, readFields, reading, recordAt}
 use Rattle.pressing.specs.Judge.{checkNode, Turn, goes, stops, byVerdict, byReading, turn, proper, bad, judgeFrom, judge}
 use Rattle.pressing.proofs.Proper.{ProperNode, AllProper}
-use Rattle.sheet.proofs.Reasons.{unless-fine, fine-unless, andThen-fine, fine-andThen}
+use Rattle.sheet.proofs.Reasons.{andThen-fine, fine-andThen}
+use Rattle.sheet.proofs.Fine.{earlier-fine, fine-earlier, step-fine, fine-step, given-fine, fine-given}
 use Rattle.pressing.proofs.Nodes.{length-more, nodeAt-before, nodeAt-end, all-proper-more}
 
 -- ---- a step that reads has a pivot that is a variable
@@ -66,39 +64,22 @@ reads-pivot e drops b m q = rw q at (fields-pivoted e drops (fieldsOf e b))
 -- ---- the checks of a node
 
 module _ (e : Edition) (rules : List ℕ) (s : List Node) where
-  earlier-fine : (n : ℕ) → checkEarlier (length s) n ≡ Fine → n < length s
-  unfolding checkEarlier
-  earlier-fine n q = ltb-true n (length s) (unless-fine _ _ _ q .0)
-
-  fine-earlier : (n : ℕ) → n < length s → checkEarlier (length s) n ≡ Fine
-  unfolding checkEarlier
-  fine-earlier n h = fine-unless _ _ _ (lt-ltb n (length s) h) refl
-
   check-fine : (m : Node) → PivotBelow e m → checkNode e rules s m ≡ Fine → ProperNode e rules s (length s) m
-  unfolding checkNode checkGiven checkStep
-  check-fine (given line c) h q =
-      let y = unless-fine (ltb line (ruleLines e rules)) NoLine _ q in
-      let z = unless-fine (alike c (ruleLine e rules line)) LineDiffers Fine (y .1) in
-      (ltb-true line (ruleLines e rules) (y .0), alike-same c (ruleLine e rules line) (z .0))
+  unfolding checkNode
+  check-fine (given line c) h q = given-fine e rules line c q
   check-fine (step p l r c) h q =
-      let a = clause (nodeAt s l) in
-      let b = clause (nodeAt s r) in
       let x = andThen-fine _ _ q in
       let y = andThen-fine _ _ (x .1) in
-      let z = unless-fine (holds (plus p) a && holds (minus p) b) PivotMissing _ (y .1) in
-      let w = unless-fine (alike c (resolvent p a b)) NotResult Fine (z .1) in
-      let u = and-eq-true-iff (holds (plus p) a) (holds (minus p) b) .0 (z .0) in
-      (h, earlier-fine l (x .0), earlier-fine r (y .0), u .0, u .1, alike-same c (resolvent p a b) (w .0))
+      let (held, negated, is) = step-fine p (clause (nodeAt s l)) (clause (nodeAt s r)) c (y .1) in
+      (h, earlier-fine _ l (x .0), earlier-fine _ r (y .0), held, negated, is)
 
   fine-check : (m : Node) → ProperNode e rules s (length s) m → checkNode e rules s m ≡ Fine
-  unfolding checkNode checkGiven checkStep
-  fine-check (given line c) d =
-      fine-unless _ _ _ (lt-ltb line (ruleLines e rules) (d .0)) (fine-unless _ _ _ (rw (d .1) (alike-self (ruleLine e rules line))) refl)
+  unfolding checkNode
+  fine-check (given line c) d = fine-given e rules line c (d .0) (d .1)
   fine-check (step p l r c) d =
-      fine-andThen _ _ (fine-earlier l (d .1)) (
-      fine-andThen _ _ (fine-earlier r (d .2)) (
-      fine-unless _ _ _ (rw (d .3, d .4)) (
-      fine-unless _ _ _ (rw (d .5) (alike-self _)) refl)))
+      fine-andThen _ _ (fine-earlier _ l (d .1)) (
+      fine-andThen _ _ (fine-earlier _ r (d .2)) (
+      fine-step p (clause (nodeAt s l)) (clause (nodeAt s r)) c (d .3) (d .4) (d .5)))
 
 -- ---- a turn goes on with a node exactly when its record reads as that node and the node is proper
 
