@@ -1,13 +1,13 @@
 -- One law for each way through the emitting pass.
 use mathlib.Core.Path.{_≡_, refl, sym, ap, _∙_}
 use mathlib.Core.Bool.{Bool, true, false, not, cond, true≢false}
-use mathlib.Core.List.{List, [], _∷_}
+use mathlib.Core.List.{List, _∷_}
 use Prim.Native.Nat.{ℕ, zero, suc, _+_, _-_, _*_, _<_, _≤_, max}
 use native.Mathlib.Omega.{arith}
 use native.Mathlib.Numerals.{add-one}
 use borrow.Author.Tests.{eq-eqb, ne-eqb}
 use lib.Dec.{eqb}
-use lib.ListN.{length}
+use lib.ListN.{length, drop-of-length-le}
 use lib.ListN.{drop as after}
 use lib.Seq.{drop-cons}
 use Rattle.base.specs.Bytes.{put}
@@ -17,6 +17,7 @@ use Rattle.sheet.specs.Fields.{recordBytesOf}
 use Rattle.sheet.specs.Counts.{stepOf}
 use Rattle.sheet.specs.Records.{Node, given, step, Record, node, drop, nodeAt}
 use Rattle.pressing.specs.Trim.{naming, usesIn, uses}
+use Rattle.pressing.proofs.Playing.{usedIn}
 use Rattle.emit.specs.Emission.{emission, emitRecord}
 use Rattle.tables.proofs.Found.{IsGiven}
 
@@ -46,40 +47,31 @@ module _ (n p l r : ℕ) (c : Literals) (x : Node) (e : x ≡ step p l r c) wher
 
 -- ---- whether a node from m on does
 
-abbrev pub Named : ℕ → List Node → Bool
-Named n s = not (eqb (uses s n) 0)
-
-pub after-all : (m : ℕ) (s : List Node) → length s ≤ m → after m s ≡ []
-after-all zero [] h = refl
-after-all zero (x ∷ s) h = absurd (omega arith)
-after-all (suc m) [] h = refl
-after-all (suc m) (x ∷ s) h = after-all m s (omega arith)
-
-module _ (n : ℕ) (s : List Node) (m : ℕ) where
+module _ (s : List Node) (m : ℕ) where
   pub from-cons : m < length s → after m s ≡ nodeAt s m ∷ after (m + 1) s
   unfolding nodeAt
-  from-cons h = drop-cons s m (given 0 none) h ∙ ap (λ (k : ℕ). nodeAt s m ∷ after k s) (sym (add-one m))
+  from-cons h = rw add-one (drop-cons s m (given 0 none) h)
 
-  module _ (h : m < length s) where
-    pub named-here : true ≡ Names n (nodeAt s m) → true ≡ Named n (after m s)
-    unfolding uses
-    named-here e = by (usesIn n (nodeAt s m)) e ∙ sym (ap (Named n) (from-cons h))
+  module _ (n : ℕ) (h : m < length s) where
+    pub named-here : true ≡ Names n (nodeAt s m) → true ≡ usedIn (after m s) n
+    unfolding uses usedIn
+    named-here e = by (usesIn n (nodeAt s m)) e ∙ sym (ap (λ (l : List Node). usedIn l n) (from-cons h))
       where
         by : (k : ℕ) → true ≡ not (eqb k 0) → true ≡ not (eqb (k + uses (after (m + 1) s) n) 0)
         by zero q = absurd (true≢false q)
         by (suc k) q = sym (ap not (ne-eqb (suc k + uses (after (m + 1) s) n) 0 (λ z. omega arith)))
 
-    pub named-later : false ≡ Names n (nodeAt s m) → Named n (after m s) ≡ Named n (after (m + 1) s)
-    unfolding uses
-    named-later e = ap (Named n) (from-cons h) ∙ by (usesIn n (nodeAt s m)) e
+    pub named-later : false ≡ Names n (nodeAt s m) → usedIn (after m s) n ≡ usedIn (after (m + 1) s) n
+    unfolding uses usedIn
+    named-later e = ap (λ (l : List Node). usedIn l n) (from-cons h) ∙ by (usesIn n (nodeAt s m)) e
       where
         by : (k : ℕ) → false ≡ not (eqb k 0) → not (eqb (k + uses (after (m + 1) s) n) 0) ≡ not (eqb (uses (after (m + 1) s) n) 0)
         by zero q = let z : 0 + uses (after (m + 1) s) n ≡ uses (after (m + 1) s) n = omega arith in ap (λ (k : ℕ). not (eqb k 0)) z
         by (suc k) q = absurd (true≢false (sym (q ∙ ap not (ne-eqb (suc k) 0 (λ z. omega arith)))))
 
-  pub named-none : length s ≤ m → false ≡ Named n (after m s)
-  unfolding uses
-  named-none h = sym (ap (Named n) (after-all m s h))
+  pub named-none : (n : ℕ) → length s ≤ m → false ≡ usedIn (after m s) n
+  unfolding uses usedIn
+  named-none n h = rw (drop-of-length-le s h)
 
 -- ---- what is counted after a record
 

@@ -1,12 +1,11 @@
 -- Room for the records that are still to come, and what a turn of the emitting pass makes of it.
-use mathlib.Core.Path.{_≡_, refl, sym, ap, _∙_}
-use mathlib.Core.Bool.{Bool, true, false, not, cond, true≢false}
+use mathlib.Core.Path.{_≡_, sym, ap, _∙_}
+use mathlib.Core.Bool.{true, false}
 use mathlib.Core.List.{List, [], _∷_, _++_, append-nil}
 use Prim.Native.Nat.{ℕ, _+_, _*_, _<_, _≤_, min, max}
 use native.Mathlib.Omega.{arith}
 use borrow.Author.Tests.{eq-eqb, ne-eqb}
-use lib.Dec.{eqb}
-use lib.ListN.{length, length-append}
+use lib.ListN.{length, length-append, drop-of-length-le}
 use lib.ListN.{drop as after}
 use Rattle.base.proofs.Bytes.{length-put}
 use Rattle.clause.specs.Clauses.{Literals}
@@ -15,12 +14,13 @@ use Rattle.sheet.specs.Records.{Node, given, step, Record, node, drop, nodeAt}
 use Rattle.sheet.specs.Fields.{recordBytesOf}
 use Rattle.sheet.specs.Counts.{stepOf}
 use Rattle.sheet.proofs.RecordBytes.{length-recordBytesOf}
-use Rattle.pressing.specs.Trim.{uses}
 use Rattle.pressing.specs.Drops.{dropLast, dropsAfter, withDrops}
+use Rattle.pressing.proofs.Playing.{usedIn}
+use Rattle.pressing.proofs.Drops.{dropLast-used, dropLast-unused}
 use Rattle.emit.specs.Emission.{Emission, emitRecord, emitAll, recordsAt, Roomy}
 use Rattle.tables.proofs.Found.{IsGiven}
 use Rattle.emit.proofs.Emits.{emitAll-append}
-use Rattle.emit.proofs.Emitting.{Named, from-cons, after-all}
+use Rattle.emit.proofs.Emitting.{from-cons}
 
 -- room for one record, as the code asks for it
 pub record One (e : Emission) : Type 0 where
@@ -67,32 +67,16 @@ roomy-rest (x ∷ xs) ys e h = roomy-rest xs ys (emitRecord x e) (roomy-next x (
 -- ---- the drop of n, or none
 
 module _ (later : List Node) (n : ℕ) (e : Emission) where
-  used : true ≡ Named n later → dropLast later n ≡ []
-  unfolding dropLast
-  used h = by (eqb (uses later n) 0) h
-    where
-      by : (b : Bool) → true ≡ not b → cond b (drop n ∷ []) [] ≡ []
-      by true q = absurd (true≢false q)
-      by false q = refl
-
-  unused : false ≡ Named n later → dropLast later n ≡ drop n ∷ []
-  unfolding dropLast
-  unused h = by (eqb (uses later n) 0) h
-    where
-      by : (b : Bool) → false ≡ not b → cond b (drop n ∷ []) [] ≡ drop n ∷ []
-      by true q = refl
-      by false q = absurd (true≢false (sym q))
-
-  pub last-kept : true ≡ Named n later → e ≡ emitAll (dropLast later n) e
+  pub last-kept : true ≡ usedIn later n → e ≡ emitAll (dropLast later n) e
   unfolding emitAll
-  last-kept h = sym (ap (λ (rs : List Record). emitAll rs e) (used h))
+  last-kept h = rw (dropLast-used later n (sym h))
 
-  pub last-dropped : false ≡ Named n later → emitRecord (drop n) e ≡ emitAll (dropLast later n) e
+  pub last-dropped : false ≡ usedIn later n → emitRecord (drop n) e ≡ emitAll (dropLast later n) e
   unfolding emitAll
-  last-dropped h = sym (ap (λ (rs : List Record). emitAll rs e) (unused h))
+  last-dropped h = rw (dropLast-unused later n (sym h))
 
-  pub last-room : false ≡ Named n later → Roomy (dropLast later n) e → One e
-  last-room h r = roomy-one (drop n) [] e (rw (unused h) at r)
+  pub last-room : false ≡ usedIn later n → Roomy (dropLast later n) e → One e
+  last-room h r = roomy-one (drop n) [] e (rw (dropLast-unused later n (sym h)) at r)
 
 -- ---- a node and its drops
 
@@ -164,7 +148,7 @@ module _ {s : List Node} {k : ℕ} {e e₁ : Emission} {l r : ℕ} (d : Stepped 
 module _ (s : List Node) (k : ℕ) where
   drops-on : k < length s → withDrops (after k s) ≡ recordsAt s k ++ withDrops (after (k + 1) s)
   unfolding withDrops recordsAt
-  drops-on h = ap withDrops (from-cons 0 s k h)
+  drops-on h = ap withDrops (from-cons s k h)
 
   module _ (h : k < length s) (e : Emission) where
     pub emit-room : Roomy (withDrops (after k s)) e → Roomy (recordsAt s k) e
@@ -179,4 +163,4 @@ module _ (s : List Node) (k : ℕ) where
 
   pub emit-done : length s ≤ k → (e : Emission) → emitAll (withDrops (after k s)) e ≡ e
   unfolding withDrops emitAll
-  emit-done h e = ap (λ (l : List Node). emitAll (withDrops l) e) (after-all k s h)
+  emit-done h e = ap (λ (l : List Node). emitAll (withDrops l) e) (drop-of-length-le s h)

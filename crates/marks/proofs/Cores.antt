@@ -7,7 +7,7 @@ use native.Mathlib.Omega.{arith}
 use native.Mathlib.Numerals.{add-one}
 use types.Run.{OneOf}
 use denote.Enum.Declared.{tagOf}
-use lib.ListN.{length, getD, set, take, replicate}
+use lib.ListN.{length, getD, set, take, replicate, drop-of-length-le}
 use lib.ListN.{drop as after}
 use lib.Seq.{drop-cons, length-take-le, take-at}
 use Rattle.base.proofs.Lists.{Each, set-each, zeros-each}
@@ -24,7 +24,7 @@ use Rattle.sheet.proofs.Record.{the-type}
 use Rattle.pressing.specs.Drops.{markLines, total}
 use Rattle.pressing.proofs.Marks.{length-marks}
 use Rattle.marks.specs.Marking.{markNode, LinesBelow}
-use Rattle.emit.proofs.Emitting.{from-cons, after-all}
+use Rattle.emit.proofs.Emitting.{from-cons}
 
 pub found-line : (x : Record) (m : Node) (line : LineNo) (c : Clause) → recordOf x ≡ node m → x ≡ Given line c → m ≡ given (line .0) (literalsOf c)
 unfolding recordOf
@@ -51,11 +51,11 @@ mark-cons (step p l r c) s marks = refl
 
 module _ (s : List Node) (k : ℕ) where
   pub mark-on : (marks : List ℕ) → k < length s → markLines (after (k + 1) s) (markNode (nodeAt s k) marks) ≡ markLines (after k s) marks
-  mark-on marks h = sym (ap (λ (l : List Node). markLines l marks) (from-cons 0 s k h) ∙ mark-cons (nodeAt s k) (after (k + 1) s) marks)
+  mark-on marks h = sym (ap (λ (l : List Node). markLines l marks) (from-cons s k h) ∙ mark-cons (nodeAt s k) (after (k + 1) s) marks)
 
   pub mark-done : (marks : List ℕ) → length s ≤ k → marks ≡ markLines (after k s) marks
   unfolding markLines
-  mark-done marks h = sym (ap (λ (l : List Node). markLines l marks) (after-all k s h))
+  mark-done marks h = sym (ap (λ (l : List Node). markLines l marks) (drop-of-length-le s h))
 
 -- ---- counting
 

@@ -2,6 +2,7 @@ use mathlib.Core.Path.{sym, _∙_}
 use lib.ListN.{drop as after}
 use Rattle.sheet.specs.Denote.{recordOf}
 use Rattle.tables.specs.Tables.{nodesIn}
+use Rattle.pressing.proofs.Playing.{usedIn}
 use Rattle.emit.specs.Emission.{emissionOf}
 use Rattle.emit.proofs.Rooms.{last-kept, last-dropped, last-room}
 use borrow.Author.Needs.{needs}
@@ -12,10 +13,12 @@ named-from-requires : tie.Need-named-from-requires
 named-from-requires c κs = search needs
 
 returns : tie.Need-returns
+unfolding usedIn
 returns c = let a = c .before .before .before .before .before .before .args in
     last-kept (after (a .from) (nodesIn (a .heads .now) (a .positives .now) (a .negatives .now))) (a .n .0) (emissionOf (a .out .now) (a .e)) (sym (c .if1 .taken) ∙ c .before .named-from .ensures)
 
 emit-record-requires : tie.Need-emit-record-requires
+unfolding usedIn
 emit-record-requires c κs = let st = c .before .before .before .before .before .before .before in
     let a = st .args in
     let o = last-room (after (a .from) (nodesIn (a .heads .now) (a .positives .now) (a .negatives .now))) (a .n .0) (emissionOf (a .out .now) (a .e)) (sym (c .before .if1 .left) ∙ c .before .before .named-from .ensures) (st .pre .1) in
@@ -25,7 +28,7 @@ same-length : tie.Need-same-length
 same-length c = search needs
 
 returns-2 : tie.Need-returns-2
-unfolding recordOf
+unfolding recordOf usedIn
 returns-2 c = let n = c .before .before .before .before .before in
     let a = n .before .before .before .before .before .args in
     c .before .before .emit-record .ensures

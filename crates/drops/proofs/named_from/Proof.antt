@@ -5,13 +5,14 @@ use lib.ListN.{length}
 use lib.ListN.{drop as after}
 use Rattle.tables.specs.Tables.{nodesIn}
 use Rattle.tables.proofs.Tables.{nodes-length}
-use Rattle.emit.proofs.Emitting.{Named, named-here, named-later, named-none}
+use Rattle.pressing.proofs.Playing.{usedIn}
+use Rattle.emit.proofs.Emitting.{named-here, named-later, named-none}
 use borrow.Author.Needs.{needs}
 use Rattle.drops.proofs.named_from.Statement.{statement}
 use Rattle.drops.proofs.named_from.Tie as tie
 
 abbrev Inv-loop : tie.InvT-loop
-Inv-loop heads positives negatives from n m₀ m = Named (n .0) (after m (nodesIn heads positives negatives)) ≡ Named (n .0) (after from (nodesIn heads positives negatives))
+Inv-loop heads positives negatives from n m₀ m = usedIn (after m (nodesIn heads positives negatives)) (n .0) ≡ usedIn (after from (nodesIn heads positives negatives)) (n .0)
 
 abbrev μ-loop : tie.MeasureT-loop
 μ-loop heads positives negatives from n m₀ m = length heads - m
@@ -26,11 +27,12 @@ names-requires : tie.Need-names-requires Inv-loop μ-loop
 names-requires c κs = (c .before .before .before .before .before .before .pre, omega (arith, c .if1 .taken, c .before .wide .ensures))
 
 returns : tie.Need-returns Inv-loop μ-loop
+unfolding usedIn
 returns c = let l = c .before .before .before .before in
     let st = l .before .before .before .before in
     let a = st .args in
     let s = nodesIn (a .heads .now) (a .positives .now) (a .negatives .now) in
-    named-here (a .n .0) s (l .loop .m) (rw (nodes-length (a .heads .now) (a .positives .now) (a .negatives .now) (st .pre .plus) (st .pre .minus)) (omega (arith, c .before .before .if1 .taken, c .before .before .before .wide .ensures))) (sym (c .if2 .taken) ∙ c .before .names .ensures)
+    named-here s (l .loop .m) (a .n .0) (rw (nodes-length (a .heads .now) (a .positives .now) (a .negatives .now) (st .pre .plus) (st .pre .minus)) (omega (arith, c .before .before .if1 .taken, c .before .before .before .wide .ensures))) (sym (c .if2 .taken) ∙ c .before .names .ensures)
     ∙ l .loop .inv
 
 add-m : tie.Need-add-m Inv-loop μ-loop
@@ -44,15 +46,16 @@ loop-again c = let l = c .before .before .before .before in
     let st = l .before .before .before .before in
     let a = st .args in
     let s = nodesIn (a .heads .now) (a .positives .now) (a .negatives .now) in
-    sym (named-later (a .n .0) s (l .loop .m) (rw (nodes-length (a .heads .now) (a .positives .now) (a .negatives .now) (st .pre .plus) (st .pre .minus)) (omega (arith, c .before .before .if1 .taken, c .before .before .before .wide .ensures))) (sym (c .if2 .left) ∙ c .before .names .ensures))
+    sym (named-later s (l .loop .m) (a .n .0) (rw (nodes-length (a .heads .now) (a .positives .now) (a .negatives .now) (st .pre .plus) (st .pre .minus)) (omega (arith, c .before .before .if1 .taken, c .before .before .before .wide .ensures))) (sym (c .if2 .left) ∙ c .before .names .ensures))
     ∙ l .loop .inv
 
 returns-2 : tie.Need-returns-2 Inv-loop μ-loop
+unfolding usedIn
 returns-2 c = let l = c .before .before in
     let st = l .before .before .before .before in
     let a = st .args in
     let s = nodesIn (a .heads .now) (a .positives .now) (a .negatives .now) in
-    named-none (a .n .0) s (l .loop .m) (rw (nodes-length (a .heads .now) (a .positives .now) (a .negatives .now) (st .pre .plus) (st .pre .minus)) (omega (arith, c .if1 .left, c .before .wide .ensures)))
+    named-none s (l .loop .m) (a .n .0) (rw (nodes-length (a .heads .now) (a .positives .now) (a .negatives .now) (st .pre .plus) (st .pre .minus)) (omega (arith, c .if1 .left, c .before .wide .ensures)))
     ∙ l .loop .inv
 
 pub named-from-spec : {M : Type 1} → statement M
