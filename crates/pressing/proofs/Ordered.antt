@@ -141,7 +141,7 @@ module _ (s : List Node) (count : ℕ → ℕ) where
   place-new depth n o q = rw (q, place)
 
   module _ (earlier : Falling s) where
-    -- a depth above n is enough
+    -- above n all depths say the same
     premises-alike : (go go′ : ℕ → List ℕ → List ℕ) (n : ℕ) (o : List ℕ) (m : Node) → Falls n m
         → ((k : ℕ) (x : List ℕ) → k < n → go k x ≡ go′ k x) → premises count go m o ≡ premises count go′ m o
     unfolding premises inTurn
@@ -163,13 +163,10 @@ module _ (s : List Node) (count : ℕ → ℕ) where
             ∙ ap (λ (x : List ℕ). n ∷ x) (premises-alike (byDepth d) (byDepth d′) n o (nodeAt s n) (earlier n) f)
             ∙ sym (place-new d′ n o q)
 
-    place-alike : (d d′ n : ℕ) (o : List ℕ) → n < d → n < d′ → place s count d n o ≡ place s count d′ n o
+    pub place-alike : (d d′ n : ℕ) (o : List ℕ) → n < d → n < d′ → place s count d n o ≡ place s count d′ n o
     place-alike zero d′ n o h h′ = absurd (omega arith)
     place-alike (suc d) zero n o h h′ = absurd (omega arith)
     place-alike (suc d) (suc d′) n o h h′ = alike-next d d′ n o (λ k x l. place-alike d d′ k x (omega arith) (omega arith))
-
-    pub place-depth : (d n : ℕ) (o : List ℕ) → n < d → place s count d n o ≡ place s count (suc n) n o
-    place-depth d n o h = place-alike d (suc n) n o h (omega arith)
 
     module _ (Q : ℕ → Type 0) (closed : (n : ℕ) → Q n → Parents Q (nodeAt s n)) where
       abbrev Places : ℕ → (ℕ → List ℕ → List ℕ) → Type 0
@@ -242,6 +239,3 @@ module _ (s : List Node) (earlier : Falling s) (Q : ℕ → Type 0) (closed : (n
       | inr d ↦ elim d [ inl k ↦ inr k | inr k ↦ absurd (placed-none n k) ]
     ];
   }
-
-  pub orderFrom-bound : (n : ℕ) → placed n (orderFrom s from) ≡ true → n ≤ from
-  orderFrom-bound n h = elim (placing-from .bound n h) [ inl k ↦ k | inr k ↦ absurd (placed-none n k) ]

@@ -1,5 +1,5 @@
 -- Laws of the row of slots: the first that passes a test, holding, releasing, clearing, and how many slots are in use.
-use mathlib.Core.Path.{_≡_, refl, sym, ap, ap₂, _∙_}
+use mathlib.Core.Path.{_≡_, refl, sym, ap, _∙_}
 use mathlib.Core.Bool.{Bool, true, false, not, _&&_, _||_, cond, or-true, true≢false}
 use mathlib.Core.Logic.{_≢_}
 use mathlib.Core.List.{List, [], _∷_, _++_}
@@ -27,37 +27,6 @@ module _ {A : Type 0} (test : A → Bool) where
   first-later : (x : A) (row : List A) → test x ≡ false → first test (x ∷ row) ≡ suc (first test row)
   unfolding first
   first-later x row e = rw e
-
-  pub first-le : (row : List A) → first test row ≤ length row
-  unfolding first
-  first-le [] = omega arith
-  first-le (x ∷ row) = let h = first-le row in cond-both (λ (k : ℕ). k ≤ suc (length row)) (test x) 0 (suc (first test row)) (omega arith) (omega arith)
-
-  pub first-passes : (row : List A) (d : A) → first test row < length row → test (getD row (first test row) d) ≡ true
-  unfolding first
-  first-passes [] d h = absurd (not-suc-le-zero h)
-  first-passes (x ∷ row) d h = go (test x) refl (first-passes row d) h
-    where
-      go : (b : Bool) → test x ≡ b
-          → (first test row < length row → test (getD row (first test row) d) ≡ true)
-          → cond b 0 (suc (first test row)) < suc (length row)
-          → test (getD (x ∷ row) (cond b 0 (suc (first test row))) d) ≡ true
-      go true e rest h = e
-      go false e rest h = rest (le-of-suc-le-suc h)
-
-  pub first-before : (row : List A) (d : A) (i : ℕ) → i < first test row → test (getD row i d) ≡ false
-  unfolding first
-  first-before [] d i h = absurd (not-suc-le-zero h)
-  first-before (x ∷ row) d i h = go (test x) refl i (first-before row d) h
-    where
-      go : (b : Bool) → test x ≡ b
-          → (i : ℕ)
-          → ((j : ℕ) → j < first test row → test (getD row j d) ≡ false)
-          → i < cond b 0 (suc (first test row))
-          → test (getD (x ∷ row) i d) ≡ false
-      go true e i rest h = absurd (not-suc-le-zero h)
-      go false e zero rest h = e
-      go false e (suc i) rest h = rest i (le-of-suc-le-suc h)
 
   -- where a search ends: at i, or with none
   pub first-at : (row : List A) (d : A) (i : ℕ)
@@ -334,15 +303,6 @@ inUse-release n (x ∷ row) e =
         → suc (cond b (inUse (release n row)) (suc (inUse (release n row)))) ≡ cond b (inUse row) (suc (inUse row))
     more true h = h
     more false h = ap suc h
-
--- "A dropped node's slot is used again."
-pub room-release : (n : ℕ) (row : List Slot) → held n row ≡ true → room (release n row) ≡ true
-room-release n row e =
-    room-when-fewer (release n row)
-    ∙ lt-ltb (inUse (release n row)) (length (release n row)) (omega (arith, inUse-release n row e, inUse-le row, length-release n row))
-
-pub room-hold : (n : ℕ) (c : Literals) (row : List Slot) → room row ≡ true → room (hold n c row) ≡ ltb (suc (inUse row)) (length row)
-room-hold n c row e = room-when-fewer (hold n c row) ∙ ap₂ ltb (inUse-hold n c row e) (length-hold n c row)
 
 -- ---- a row with others after it
 

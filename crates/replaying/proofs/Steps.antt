@@ -257,12 +257,6 @@ module _ (e : Edition) (sheet rules : List ℕ) (slots : List Slot) (n : ℕ) (l
   replay-ends first = replay-is-steps n 0 (omega arith) first
 
   module _ (k : ℕ) (h : k < n) (first : FirstTaken e rules sheet (start slots) k) where
-    -- else it answers the first refusal
-    pub replay-refuses : (x j : ℕ) → answerAt e rules sheet (start slots) k ≡ step-refused x j → replay e sheet rules slots .answer ≡ refused x j
-    replay-refuses x j a =
-        replay-is-steps k (suc (n - suc k)) (omega arith) first
-        ∙ step-refuses e sheet rules n l k h (afterSteps e rules sheet (start slots) k) (steps-within k (omega arith) first) (n - suc k) x j a
-
     -- a turn that goes is one more that is taken, and a turn that stops is the answer
     pub taken-more : (t : State) → turn e rules (recordAt e sheet k) (afterSteps e rules sheet (start slots) k) ≡ goes t
         → FirstTaken e rules sheet (start slots) (suc k) × (afterSteps e rules sheet (start slots) (suc k) ≡ t)
