@@ -7,7 +7,7 @@ use native.Mathlib.Numerals.{add-one}
 use native.Mathlib.Omega.{arith}
 use lib.Arith.{mod-mul}
 use lib.ListN.{length, getD, set, take, drop, length-append, length-drop, take-append-drop}
-use lib.Seq.{take-add, take-at, drop-at, drop-drop, drop-append-add, set-split, length-take-le, getD-drop, take-append-le, append-snoc, take-take, getD-take, take-suc}
+use lib.Seq.{take-add, take-at, drop-at, drop-drop, drop-append-add, set-split, length-take-le, getD-drop, append-snoc, take-suc}
 use Rattle.base.specs.Bytes.{value, bytes, part, valueAt, put}
 
 -- ---- the number that bytes say
@@ -20,10 +20,15 @@ value-append (x ∷ xs) ys =
     ∙ omega
     (arith, ap (λ (n : ℕ). n * value ys) (pow-suc 256 (length xs) ∙ mul-comm (256 ^ length xs) 256) ∙ mul-assoc 256 (256 ^ length xs) (value ys))
 
-pub value-lt : (bs : List ℕ) → ((i : ℕ) → getD bs i 0 < 256) → value bs < 256 ^ length bs
+value-take-lt : (n : ℕ) (bs : List ℕ) → ((i : ℕ) → getD bs i 0 < 256) → value (take n bs) < 256 ^ n
 unfolding value
-value-lt [] h = zero-lt-suc 0
-value-lt (b ∷ bs) h = let g : b < 256 = h 0 in rw pow-suc (omega (arith, value-lt bs (λ i. h (suc i))))
+value-take-lt zero bs h = zero-lt-suc 0
+value-take-lt (suc n) [] h = rw pow-suc (omega (arith, value-take-lt n [] h))
+value-take-lt (suc n) (b ∷ bs) h = let g : b < 256 = h 0 in rw pow-suc (omega (arith, value-take-lt n bs (λ i. h (suc i))))
+
+pub valueAt-lt : (n : ℕ) (s : List ℕ) (at : ℕ) → ((i : ℕ) → getD s i 0 < 256) → valueAt n s at < 256 ^ n
+unfolding valueAt
+valueAt-lt n s at h = value-take-lt n (drop at s) (λ i. rw getD-drop (h (at + i)))
 
 pub valueAt-add : (m n : ℕ) (s : List ℕ) (at : ℕ) → at + m ≤ length s → valueAt (m + n) s at ≡ valueAt m s at + 256 ^ m * valueAt n s (at + m)
 unfolding valueAt
@@ -97,24 +102,6 @@ pub length-part : (k : ℕ) (s : List ℕ) (o : ℕ) → o + k ≤ length s → 
 unfolding part
 length-part k s o h = length-take-le k (drop o s) (simp length-drop (omega arith))
 
-pub getD-part : (n : ℕ) (s : List ℕ) (o j : ℕ) → j < n → getD (part n s o) j 0 ≡ getD s (o + j) 0
-unfolding part
-getD-part n s o j h = getD-take n (drop o s) j 0 h ∙ getD-drop o s j 0
-
-within-take : (m n : ℕ) (l : List ℕ) (j : ℕ) → j + m ≤ n → take m (drop j (take n l)) ≡ take m (drop j l)
-within-take m n l zero h = take-take m n l (omega arith)
-within-take m zero l (suc j) h = absurd (omega arith)
-within-take m (suc n) [] (suc j) h = refl
-within-take m (suc n) (x ∷ l) (suc j) h = within-take m n l j (omega arith)
-
-pub part-part : (m n : ℕ) (s : List ℕ) (o j : ℕ) → j + m ≤ n → part m (part n s o) j ≡ part m s (o + j)
-unfolding part
-part-part m n s o j h = within-take m n (drop o s) j h ∙ ap (take m) (drop-drop j o s)
-
-pub valueAt-part : (m n : ℕ) (s : List ℕ) (o j : ℕ) → j + m ≤ n → valueAt m (part n s o) j ≡ valueAt m s (o + j)
-unfolding valueAt part
-valueAt-part m n s o j h = ap value (part-part m n s o j h)
-
 -- ---- stores
 
 head-length : (d : List ℕ) (at : ℕ) (bs : List ℕ) → at ≤ length d → length (take at d ++ bs) ≡ at + length bs
@@ -143,38 +130,18 @@ put-put d at xs ys n e h =
     ∙ ap (λ (k : ℕ). drop k d) (add-assoc at (length xs) (length ys) ∙ ap (λ (k : ℕ). at + k) (sym (length-append xs ys))))
     ∙ ap (λ (l : List ℕ). l ++ drop (at + length (xs ++ ys)) d) (append-assoc (take at d) xs ys)
 
-pub part-put : (d : List ℕ) (at : ℕ) (bs : List ℕ) → at ≤ length d → part (length bs) (put d at bs) at ≡ bs
+pub part-put : (d : List ℕ) (at : ℕ) (bs : List ℕ) (n : ℕ) → length bs ≡ n → at ≤ length d → part n (put d at bs) at ≡ bs
 unfolding part put
-part-put d at bs h =
-    ap (take (length bs))
+part-put d at bs n e h =
+    ap (take n)
     (ap (drop at) (append-assoc (take at d) bs (drop (at + length bs) d))
     ∙ drop-at (take at d) (bs ++ drop (at + length bs) d) at (length-take-le at d h))
-    ∙ take-at bs (drop (at + length bs) d) (length bs) refl
-
-pub take-put : (d : List ℕ) (at : ℕ) (bs : List ℕ) (n : ℕ) → n ≤ at → at ≤ length d → take n (put d at bs) ≡ take n d
-unfolding put
-take-put d at bs n g h =
-    ap (take n) (append-assoc (take at d) bs (drop (at + length bs) d))
-    ∙ take-append-le n (take at d) (bs ++ drop (at + length bs) d) (simp (length-take-le at d h) g)
-    ∙ take-take n at d g
-
-pub drop-put : (d : List ℕ) (at : ℕ) (bs : List ℕ) → at ≤ length d → drop (at + length bs) (put d at bs) ≡ drop (at + length bs) d
-unfolding put
-drop-put d at bs h = drop-at (take at d ++ bs) (drop (at + length bs) d) (at + length bs) (head-length d at bs h)
-
-pub put-at : (p q : List ℕ) (at : ℕ) (bs : List ℕ) → length p ≡ at → put (p ++ q) at bs ≡ p ++ bs ++ drop (length bs) q
-unfolding put
-put-at p q at bs e =
-    ap₂ (λ (l r : List ℕ). l ++ bs ++ r) (take-at p q at e)
-    (ap (λ (k : ℕ). drop (k + length bs) (p ++ q)) (sym e) ∙ drop-append-add p q (length bs))
+    ∙ take-at bs (drop (at + length bs) d) n e
 
 -- what is stored is read again
 pub valueAt-put : (d : List ℕ) (at n w : ℕ) → at ≤ length d → w < 256 ^ n → valueAt n (put d at (bytes n w)) at ≡ w
 unfolding valueAt part
-valueAt-put d at n w h g =
-    ap (λ (k : ℕ). value (take k (drop at (put d at (bytes n w))))) (sym (length-bytes n w))
-    ∙ ap value (part-put d at (bytes n w) h)
-    ∙ value-bytes-small n w g
+valueAt-put d at n w h g = ap value (part-put d at (bytes n w) n (length-bytes n w) h) ∙ value-bytes-small n w g
 
 -- ---- what the code's stores come to
 

@@ -1,4 +1,4 @@
--- Laws of the walks over the numbers below n. The -start, -next and -all laws are for `search` at a loop's start, turn and end.
+-- Laws of the walks over the numbers below n. The -next and -all laws are for `search` at a loop's turn and end.
 use mathlib.Core.Path.{_≡_, refl, sym, ap, _∙_}
 use Prim.Native.Nat.{ℕ, zero, suc, _+_, _-_, _≤_, _<_}
 use native.Mathlib.Nat.{not-suc-le-zero}
@@ -6,22 +6,12 @@ use native.Mathlib.Numerals.{add-one, sub-one}
 use native.Mathlib.Omega.{arith}
 use Rattle.base.specs.Folds.{rise, fall}
 
-pub rise-none : {S : Type 0} (f : ℕ → S → S) (s : S) → rise f 0 s ≡ s
-unfolding rise
-rise-none f s = refl
-
 pub rise-more : {S : Type 0} (f : ℕ → S → S) (n : ℕ) (s : S) → rise f (n + 1) s ≡ f n (rise f n s)
 unfolding rise
 rise-more f n s = rw add-one
 
-pub rise-start : {S : Type 0} (f : ℕ → S → S) (x : S) → x ≡ rise f 0 x
-rise-start f x = sym (rise-none f x)
-
 pub rise-next : {S : Type 0} (f : ℕ → S → S) (i : ℕ) (x x₀ y : S) → x ≡ rise f i x₀ → y ≡ f i x → y ≡ rise f (i + 1) x₀
 rise-next f i x x₀ y e q = q ∙ ap (f i) e ∙ sym (rise-more f i x₀)
-
-pub rise-all : {S : Type 0} (f : ℕ → S → S) (i n : ℕ) (x x₀ : S) → x ≡ rise f i x₀ → i ≤ n → n ≤ i → x ≡ rise f n x₀
-rise-all f i n x x₀ e p q = let h : i ≡ n = omega arith in rw (← h) e
 
 -- what each turn below n keeps, n turns keep
 pub rise-by : {S : Type 0} (P : ℕ → S → Type 0) (f : ℕ → S → S) (n : ℕ) (s : S)
@@ -29,10 +19,6 @@ pub rise-by : {S : Type 0} (P : ℕ → S → Type 0) (f : ℕ → S → S) (n :
 unfolding rise
 rise-by P f zero s k h = h
 rise-by P f (suc n) s k h = k n (rise f n s) (omega arith) (rise-by P f n s (λ i t l. k i t (omega arith)) h)
-
-pub rise-keeps : {S : Type 0} (P : ℕ → S → Type 0) (f : ℕ → S → S) (s : S)
-    → P 0 s → ((i : ℕ) (t : S) → P i t → P (suc i) (f i t)) → (n : ℕ) → P n (rise f n s)
-rise-keeps P f s h k n = rise-by P f n s (λ i t l. k i t) h
 
 pub fall-none : {S : Type 0} (f : ℕ → S → S) (s : S) → fall f 0 s ≡ s
 unfolding fall
@@ -55,7 +41,3 @@ pub fall-by : {S : Type 0} (P : ℕ → S → Type 0) (f : ℕ → S → S) (n :
 unfolding fall
 fall-by P f zero s k h = h
 fall-by P f (suc n) s k h = fall-by P f n (f n s) (λ i t l. k i t (omega arith)) (k n s (omega arith) h)
-
-pub fall-keeps : {S : Type 0} (P : S → Type 0) (f : ℕ → S → S)
-    → ((i : ℕ) (t : S) → P t → P (f i t)) → (n : ℕ) (s : S) → P s → P (fall f n s)
-fall-keeps P f k n s h = fall-by (λ i. P) f n s (λ i t l. k i t) h

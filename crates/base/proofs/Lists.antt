@@ -2,12 +2,13 @@
 use mathlib.Core.Path.{_≡_, refl, sym, ap, _∙_}
 use mathlib.Core.Bool.{Bool, true, false, cond}
 use mathlib.Core.List.{List, [], _∷_, _++_, append-nil, map}
-use Prim.Native.Nat.{ℕ, zero, suc, _≤_, _<_}
+use Prim.Native.Nat.{ℕ, zero, suc, _+_, _≤_, _<_}
 use native.Mathlib.Nat.{suc-inj, not-suc-le-zero, le-of-suc-le-suc}
+use native.Mathlib.Numerals.{add-one}
 use native.Mathlib.Omega.{arith}
 use lib.ListN.{length, getD, set, drop, replicate, length-map, List·getD-map}
-use lib.Seq.{drop-length}
-use Rattle.base.specs.Tables.{along, zip3, zip4}
+use lib.Seq.{drop-length, drop-cons}
+use Rattle.base.specs.Tables.{along, zip3}
 
 pub cond-both : {A : Type 0} (P : A → Type 0) (b : Bool) (x y : A) → P x → P y → P (cond b x y)
 cond-both P true x y p q = p
@@ -34,7 +35,7 @@ pub zeros-each : (n : ℕ) → Each 0 (replicate n 0)
 zeros-each n j = omega (arith, getD-blank {A = ℕ} n j 0)
 
 -- inside a list it does not matter what stands past its end
-pub getD-inside : {A : Type 0} (l : List A) (i : ℕ) (y z : A) → i < length l → getD l i y ≡ getD l i z
+getD-inside : {A : Type 0} (l : List A) (i : ℕ) (y z : A) → i < length l → getD l i y ≡ getD l i z
 getD-inside [] i y z h = absurd (not-suc-le-zero h)
 getD-inside (x ∷ l) zero y z h = refl
 getD-inside (x ∷ l) (suc i) y z h = getD-inside l i y z (le-of-suc-le-suc h)
@@ -43,9 +44,13 @@ getD-inside (x ∷ l) (suc i) y z h = getD-inside l i y z (le-of-suc-le-suc h)
 pub filled : (d : List ℕ) (k v : ℕ) → k ≡ length d → replicate k v ++ drop k d ≡ replicate (length d) v
 filled d k v e = rw (e, drop-length d, append-nil)
 
+-- what is left from i on, inside the list, is its entry and what is left after it
+pub drop-more : {A : Type 0} (l : List A) (i : ℕ) (d : A) → i < length l → drop i l ≡ getD l i d ∷ drop (i + 1) l
+drop-more l i d h = rw add-one (drop-cons l i d h)
+
 -- ---- tables side by side
 
-map-set : {A : Type 0} (f : ℕ → A) (a : List ℕ) (i x : ℕ) → map f (set a i x) ≡ set (map f a) i (f x)
+pub map-set : {A B : Type 0} (f : A → B) (a : List A) (i : ℕ) (x : A) → map f (set a i x) ≡ set (map f a) i (f x)
 map-set f [] i x = refl
 map-set f (y ∷ a) zero x = refl
 map-set f (y ∷ a) (suc i) x = ap (λ (l : List _). f y ∷ l) (map-set f a i x)
@@ -87,7 +92,7 @@ module _ {A : Type 0} (f : ℕ → ℕ → ℕ → A) (a b c : List ℕ) where
     unfolding zip3
     zip3-length = along-length (along (map f a) b) c n pairs-length r
 
-    pub zip3-getD-all : (i : ℕ) → getD (zip3 f a b c) i (f 0 0 0) ≡ f (getD a i 0) (getD b i 0) (getD c i 0)
+    zip3-getD-all : (i : ℕ) → getD (zip3 f a b c) i (f 0 0 0) ≡ f (getD a i 0) (getD b i 0) (getD c i 0)
     unfolding zip3
     zip3-getD-all i =
         along-getD (along (map f a) b) c i (f 0 0) (pairs-length ∙ sym r)
@@ -96,22 +101,3 @@ module _ {A : Type 0} (f : ℕ → ℕ → ℕ → A) (a b c : List ℕ) where
 
     pub zip3-getD : (i : ℕ) (z : A) → i < n → getD (zip3 f a b c) i z ≡ f (getD a i 0) (getD b i 0) (getD c i 0)
     zip3-getD i z h = getD-inside (zip3 f a b c) i z (f 0 0 0) (rw zip3-length h) ∙ zip3-getD-all i
-
-module _ {A : Type 0} (f : ℕ → ℕ → ℕ → ℕ → A) (a b c d : List ℕ) where
-  pub zip4-set : (i x y z w : ℕ) → zip4 f (set a i x) (set b i y) (set c i z) (set d i w) ≡ set (zip4 f a b c d) i (f x y z w)
-  unfolding zip4
-  zip4-set i x y z w = rw (zip3-set f a b c i x y z) (along-set (zip3 f a b c) d i (f x y z) w)
-
-  module _ (n : ℕ) (p : length a ≡ n) (q : length b ≡ n) (r : length c ≡ n) (s : length d ≡ n) where
-    pub zip4-length : length (zip4 f a b c d) ≡ n
-    unfolding zip4
-    zip4-length = along-length (zip3 f a b c) d n (zip3-length f a b c n p q r) s
-
-    pub zip4-getD-all : (i : ℕ) → getD (zip4 f a b c d) i (f 0 0 0 0) ≡ f (getD a i 0) (getD b i 0) (getD c i 0) (getD d i 0)
-    unfolding zip4
-    zip4-getD-all i =
-        along-getD (zip3 f a b c) d i (f 0 0 0) (zip3-length f a b c n p q r ∙ sym s)
-        ∙ ap (λ (g : ℕ → A). g (getD d i 0)) (zip3-getD-all f a b c n p q r i)
-
-    pub zip4-getD : (i : ℕ) (z : A) → i < n → getD (zip4 f a b c d) i z ≡ f (getD a i 0) (getD b i 0) (getD c i 0) (getD d i 0)
-    zip4-getD i z h = getD-inside (zip4 f a b c d) i z (f 0 0 0 0) (rw zip4-length h) ∙ zip4-getD-all i

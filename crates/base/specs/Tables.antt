@@ -11,7 +11,3 @@ along (f ∷ fs) (x ∷ a) = f x ∷ along fs a
 -- f of the three entries at each place; as long as the shortest
 unfoldable pub zip3 : {A : Type 0} → (ℕ → ℕ → ℕ → A) → List ℕ → List ℕ → List ℕ → List A
 zip3 f a b c = along (along (map f a) b) c
-
--- f of the four
-unfoldable pub zip4 : {A : Type 0} → (ℕ → ℕ → ℕ → ℕ → A) → List ℕ → List ℕ → List ℕ → List ℕ → List A
-zip4 f a b c d = along (zip3 f a b c) d

@@ -29,10 +29,6 @@ use Rattle.demands.proofs.Follows.{withDrops-proper}
 
 -- ---- what is put in front
 
-take-put : (d bs : List ℕ) (n : ℕ) → length bs ≡ n → take n (put d 0 bs) ≡ bs
-unfolding part
-take-put d bs n e = rw (← e) (part-put d 0 bs (omega arith))
-
 getD-put : (d bs : List ℕ) (i : ℕ) → i < length bs → getD (put d 0 bs) i 0 ≡ getD bs i 0
 unfolding put
 getD-put d bs i h = List·getD-append bs _ 0 i h
@@ -87,7 +83,7 @@ pub record Wrote (e : Edition) (sheet rules out marks : List ℕ) (c : Literals)
 
 module _ (e : Edition) (sheet rules out marks : List ℕ) (c : Literals) (records nodes steps peak marked : ℕ) where
   wrote : Bytes rules → Says e sheet rules out marks c records nodes steps peak marked → Wrote e sheet rules out marks c records nodes steps peak marked
-  unfolding ruleLines emit emitted
+  unfolding ruleLines emit emitted part
   wrote bytes y =
       let t = pressed (y .input) in
       let rs = withDrops t in
@@ -98,11 +94,11 @@ module _ (e : Edition) (sheet rules out marks : List ℕ) (c : Literals) (record
       let sized : length (sheetBytes e rs) ≡ recordBytes e * records =
       length-sheetBytes e rs ∙ ap (λ (n : ℕ). recordBytes e * n) (sym (y .recorded)) in
       let output : written e sheet rules out marks records ≡ sheetBytes e rs =
-      ap (λ (o : Outcome). take (recordBytes e * records) (o .out)) (y .does) ∙ take-put out (sheetBytes e rs) _ sized in
+      ap (λ (o : Outcome). take (recordBytes e * records) (o .out)) (y .does) ∙ part-put out 0 (sheetBytes e rs) _ sized (omega arith) in
       record {
         says = y;
         proper = rw output (sheet-proper e rules bytes lines t (kept .proper) (kept .used) (kept .some) (omega (arith, kept .fits)));
-        core = ap (λ (o : Outcome). take (ruleLines e rules) (o .marks)) (y .does) ∙ take-put marks core _ long;
+        core = ap (λ (o : Outcome). take (ruleLines e rules) (o .marks)) (y .does) ∙ part-put marks 0 core _ long (omega arith);
         mark = λ line h. ap (λ (o : Outcome). getD (o .marks) line 0) (y .does) ∙ getD-put marks core line (rw long h);
       }
 

@@ -4,13 +4,12 @@ use mathlib.Core.Bool.{Bool, true, false, not, cond, true≢false}
 use mathlib.Core.List.{List, _∷_}
 use Prim.Native.Nat.{ℕ, zero, suc, _+_, _-_, _*_, _<_, _≤_, max}
 use native.Mathlib.Omega.{arith}
-use native.Mathlib.Numerals.{add-one}
 use borrow.Author.Tests.{eq-eqb, ne-eqb}
 use lib.Dec.{eqb}
 use lib.ListN.{length, drop-of-length-le}
 use lib.ListN.{drop as after}
-use lib.Seq.{drop-cons}
 use Rattle.base.specs.Bytes.{put}
+use Rattle.base.proofs.Lists.{drop-more}
 use Rattle.clause.specs.Clauses.{Literals, none}
 use Rattle.sheet.specs.Editions.{narrow}
 use Rattle.sheet.specs.Fields.{recordBytesOf}
@@ -50,7 +49,7 @@ module _ (n p l r : ℕ) (c : Literals) (x : Node) (e : x ≡ step p l r c) wher
 module _ (s : List Node) (m : ℕ) where
   pub from-cons : m < length s → after m s ≡ nodeAt s m ∷ after (m + 1) s
   unfolding nodeAt
-  from-cons h = rw add-one (drop-cons s m (given 0 none) h)
+  from-cons h = drop-more s m (given 0 none) h
 
   module _ (n : ℕ) (h : m < length s) where
     pub named-here : true ≡ Names n (nodeAt s m) → true ≡ usedIn (after m s) n

@@ -4,13 +4,12 @@ use mathlib.Core.Logic.{⊎-elim}
 use mathlib.Core.List.{List, [], _∷_, _++_}
 use Prim.Native.Nat.{ℕ, _+_, _<_, _≤_}
 use native.Mathlib.Omega.{arith}
-use native.Mathlib.Numerals.{add-one}
 use types.Run.{OneOf}
 use denote.Enum.Declared.{tagOf}
 use lib.ListN.{length, getD, set, take, replicate, drop-of-length-le}
 use lib.ListN.{drop as after}
-use lib.Seq.{drop-cons, length-take-le, take-at}
-use Rattle.base.proofs.Lists.{Each, set-each, zeros-each}
+use lib.Seq.{length-take-le, take-at}
+use Rattle.base.proofs.Lists.{drop-more, Each}
 use Rattle.base.specs.Bytes.{put}
 use Rattle.clause.specs.Clauses.{Literals}
 use Rattle.clause.specs.Denote.{literalsOf}
@@ -22,7 +21,7 @@ use Rattle.sheet.specs.Records.{Node, given, step, node, nodeAt}
 use Rattle.sheet.specs.Denote.{recordOf}
 use Rattle.sheet.proofs.Record.{the-type}
 use Rattle.pressing.specs.Drops.{markLines, total}
-use Rattle.pressing.proofs.Marks.{length-marks}
+use Rattle.pressing.proofs.Marks.{length-marks, each-marks}
 use Rattle.marks.specs.Marking.{markNode, LinesBelow}
 use Rattle.emit.proofs.Emitting.{from-cons}
 
@@ -61,7 +60,7 @@ module _ (s : List Node) (k : ℕ) where
 
 pub total-more : (l : List ℕ) (i : ℕ) → i < length l → total (after i l) ≡ getD l i 0 + total (after (i + 1) l)
 unfolding total
-total-more l i h = ap total (drop-cons l i 0 h ∙ ap (λ (k : ℕ). getD l i 0 ∷ after k l) (sym (add-one i)))
+total-more l i h = ap total (drop-more l i 0 h)
 
 pub total-none : (l : List ℕ) → total (after (length l) l) ≡ 0
 unfolding total
@@ -69,12 +68,6 @@ total-none [] = refl
 total-none (x ∷ l) = total-none l
 
 -- ---- the part of the marks that is lent
-
-pub mark-each : (s : List Node) (marks : List ℕ) → Each 1 marks → Each 1 (markLines s marks)
-unfolding markLines
-mark-each [] marks h = h
-mark-each (given line c ∷ s) marks h = mark-each s (set marks line 1) (set-each marks line 1 1 h (omega arith))
-mark-each (step p l r c ∷ s) marks h = mark-each s marks h
 
 module _ (s : List Node) (marks : List ℕ) (lines : ℕ) (h : lines ≤ length marks) (core : List ℕ)
     (e : core ≡ markLines s (replicate (length (take lines marks)) 0)) where
@@ -85,7 +78,7 @@ module _ (s : List Node) (marks : List ℕ) (lines : ℕ) (h : lines ≤ length 
   core-long = ap length core-is ∙ length-marks s lines
 
   pub core-each : Each 1 core
-  core-each i = rw core-is (mark-each s (replicate lines 0) (λ j. omega (arith, zeros-each lines j)) i)
+  core-each i = rw core-is (each-marks s lines i)
 
   pub core-again : take lines (core ++ after lines marks) ≡ core
   core-again = take-at core (after lines marks) lines core-long

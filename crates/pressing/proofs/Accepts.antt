@@ -19,13 +19,13 @@ use Rattle.sheet.specs.Fitting.{Known}
 use Rattle.sheet.specs.Counts.{nodesOf, stepsOf, peakFrom}
 use Rattle.sheet.specs.Proper.{recordIn, clauseIn, Held, ProperAfter, ReadsAs, Proper}
 use Rattle.sheet.proofs.Reasons.{unless-fine, fine-unless, andThen-fine, fine-andThen}
-use Rattle.sheet.proofs.RecordBytes.{reading-known}
+use Rattle.sheet.proofs.RecordBytes.{PivotBelow, reads-pivot, reading-known}
 use Rattle.sheet.proofs.Fine.{Lengths, lengths-fine, fine-lengths}
 use Rattle.pressing.specs.Judge.{checkRoom, checkPress, Judged, proper, bad, judge}
 use Rattle.pressing.specs.Drops.{withDrops, markLines, total}
 use Rattle.pressing.specs.Press.{pressed, Outcome, accepted, conclusion, emit, emitted, byJudging, byLengths, press}
 use Rattle.pressing.proofs.Proper.{ProperNode, AllProper, Kept}
-use Rattle.pressing.proofs.Judged.{PivotBelow, reads-pivot, AllRead, judged-proper, judge-of}
+use Rattle.pressing.proofs.Judged.{AllRead, judged-proper, judge-of}
 use Rattle.pressing.proofs.Kept.{pressed-kept}
 
 -- ---- records that are all nodes

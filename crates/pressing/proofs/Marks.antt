@@ -113,5 +113,8 @@ module _ (s : List Node) (lines : ℕ) where
   pub other-unmarked : (line : ℕ) → (LineOf s line → ⊥) → getD (markLines s (replicate lines 0)) line 0 ≡ 0
   other-unmarked line f = elim (ℕ-discrete (getD core line 0) 0) [ yes q ↦ q | no q ↦ absurd (f (marked-line line q)) ]
 
+  pub each-marks : Each 1 (markLines s (replicate lines 0))
+  each-marks = each-markLines s (replicate lines 0) (λ j. omega (arith, zeros-each lines j))
+
   pub marks-counted : total (markLines s (replicate lines 0)) ≡ count lines (λ i. eqb (getD (markLines s (replicate lines 0)) i 0) 1)
-  marks-counted = total-ones core (each-markLines s (replicate lines 0) (λ j. omega (arith, zeros-each lines j))) ∙ rw length-marks
+  marks-counted = total-ones core each-marks ∙ rw length-marks

@@ -1,10 +1,11 @@
 -- Laws of the row that a lent slice of slots is, and where a look through it ends.
-use mathlib.Core.Path.{_≡_, refl, sym, ap, _∙_}
+use mathlib.Core.Path.{_≡_, sym, ap, _∙_}
 use mathlib.Core.Bool.{Bool, true, false}
-use mathlib.Core.List.{List, [], _∷_}
-use Prim.Native.Nat.{ℕ, zero, suc, _<_}
+use mathlib.Core.List.{List}
+use Prim.Native.Nat.{ℕ, _<_}
 use native.Mathlib.Omega.{arith}
 use lib.ListN.{length, getD, set, length-map, List·getD-map, List·getD-eq-default}
+use Rattle.base.proofs.Lists.{map-set}
 use Rattle.replaying.specs.Slots.{Slot, empty, first}
 use Rattle.replaying.proofs.Slots.{first-at, first-none}
 use Rattle.slots.specs.declared.Slot.{Slot as CodeSlot}
@@ -17,9 +18,7 @@ row-length ys = length-map ys slotOf
 
 pub row-set : (ys : List CodeSlot) (i : ℕ) (s : CodeSlot) → rowOf (set ys i s) ≡ set (rowOf ys) i (slotOf s)
 unfolding rowOf
-row-set [] i s = refl
-row-set (y ∷ ys) zero s = refl
-row-set (y ∷ ys) (suc i) s = ap (λ (l : List Slot). slotOf y ∷ l) (row-set ys i s)
+row-set ys i s = map-set slotOf ys i s
 
 -- z is a free slot in the code's own form
 pub row-at : (ys : List CodeSlot) (i : ℕ) (z : CodeSlot) → slotOf z ≡ empty → getD (rowOf ys) i empty ≡ slotOf (getD ys i z)

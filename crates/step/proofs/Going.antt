@@ -5,12 +5,12 @@ use mathlib.Core.List.{List}
 use Prim.Native.Nat.{ℕ, suc, _+_, _-_, _*_, _/_, _≤_, _<_, _^_}
 use native.Mathlib.Numerals.{add-one}
 use native.Mathlib.Omega.{arith}
-use lib.ListN.{length, take, drop}
-use Rattle.base.specs.Bytes.{part}
+use lib.ListN.{length}
 use Rattle.sheet.specs.Editions.{narrow, replayRecords}
 use Rattle.sheet.specs.declared.Verdict.the-variants.{Fine}
 use Rattle.sheet.specs.Checks.{checkLengths}
 use Rattle.sheet.specs.Fields.{recordAt}
+use Rattle.sheet.proofs.RecordBytes.{lent, lent-is}
 use Rattle.sheet.proofs.Fine.{Lengths, lengths-fine}
 use Rattle.replaying.specs.Slots.{Slot}
 use Rattle.replaying.specs.Step.{Tally, tally, State, state, Step, taken, unfit, Stepped, stepped, oneStep, refused as step-refused}
@@ -27,10 +27,7 @@ pub goes-none : (rules sheet : List ℕ) (slots : List Slot) (t : Tally) → t �
 goes-none rules sheet slots t q =
     rw q (record { within = omega arith; left = λ m o. let e : m ≡ length sheet / 24 = omega arith in rw e })
 
--- the bytes that are lent for record k, which are in the sheet
-abbrev pub lent : List ℕ → ℕ → List ℕ
-lent sheet k = take (24 * k + 24 - 24 * k) (drop (24 * k) sheet)
-
+-- the bytes that are lent for record k are in the sheet
 pub record-inside : (k n : ℕ) → k < n / 24 → 24 * k + 24 ≤ n
 record-inside k n h = omega arith
 
@@ -56,10 +53,6 @@ module _ (n k : ℕ) where
 
 pub at-end : (k : ℕ) → 24 * k ≤ 24 * k + 24
 at-end k = omega arith
-
-pub lent-is : (sheet : List ℕ) (k : ℕ) → lent sheet k ≡ recordAt narrow sheet k
-unfolding recordAt part
-lent-is sheet k = let e : 24 * k + 24 - 24 * k ≡ 24 = omega arith in ap (λ (n : ℕ). take n (drop (24 * k) sheet)) e
 
 taken-is : (a : Step) → isTaken a ≡ true → a ≡ taken
 unfolding isTaken

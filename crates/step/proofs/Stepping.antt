@@ -53,7 +53,8 @@ use Rattle.slots.proofs.Slot as T
 use Rattle.slots.proofs.Tally as Y
 use Rattle.slots.proofs.StepAnswer as S
 use Rattle.slots.proofs.StepAnswer.Laws as S′
-use Rattle.step.proofs.Going.{lent, at-inside, number-fits}
+use Rattle.sheet.proofs.RecordBytes.{lent}
+use Rattle.step.proofs.Going.{at-inside, number-fits}
 use Rattle.step.proofs.Values.{step-val, record-val}
 use Rattle.step.proofs.step as step
 use Rattle.step.proofs.step.Symbol.{name as #step}

@@ -1,9 +1,11 @@
-use Rattle.judge.proofs.Judging.{lent-record}
-use Rattle.pressing.specs.Judge.{bad}
 use mathlib.Core.Path.{_≡_, refl, sym, ap, _∙_}
 use Prim.Native.Nat.{_+_, _*_, _-_, _≤_}
 use native.Mathlib.Omega.{arith}
 use lib.ListN.{length, length-take, length-drop}
+use Rattle.sheet.specs.Editions.{narrow}
+use Rattle.sheet.specs.Fields.{recordAt}
+use Rattle.sheet.proofs.RecordBytes.{lent-is}
+use Rattle.pressing.specs.Judge.{bad}
 use Rattle.tables.specs.Tables.{nodesIn}
 use Rattle.judge.specs.Turns.{judgedIn}
 use Rattle.tables.proofs.Tables.{nodes-length}
@@ -83,7 +85,7 @@ returns c = let j = c .before .before .before .before .before .before .before .b
     let why = c .before .before .verdict .given .0 .0 in
     ap (bad why) (c .wide3 .ensures)
     ∙ judge-halts (st .args .rules .now) (st .args .sheet .now) (length (st .args .heads .now)) (l .loop .k) (omega (arith, w .before .if1 .taken, w .before .before .wide .ensures)) s
-    (nodes-length (l .loop .heads) (l .loop .positives) (l .loop .negatives) (inv .3 ∙ sym (inv .2)) (inv .4 ∙ sym (inv .2)) ∙ inv .2) (inv .5) _ (lent-record (st .args .sheet .now) (w .wide2 .result) (l .loop .k) (w .wide2 .ensures)) _ why _ (c .before .before .verdict .given .1) (j .judge-turn .ensures)
+    (nodes-length (l .loop .heads) (l .loop .positives) (l .loop .negatives) (inv .3 ∙ sym (inv .2)) (inv .4 ∙ sym (inv .2)) ∙ inv .2) (inv .5) _ (lent-is (st .args .sheet .now) (w .wide2 .result) ∙ ap (recordAt narrow (st .args .sheet .now)) (w .wide2 .ensures)) _ why _ (c .before .before .verdict .given .1) (j .judge-turn .ensures)
 
 add-k : tie.Need-add-k Inv-loop μ-loop
 add-k c = search needs
@@ -104,7 +106,7 @@ loop-again c = let j = c .before .before .before .before .before .before .before
       j .judge-turn .kept .1 .1 .1 .0 ∙ inv .3,
       j .judge-turn .kept .1 .1 .1 .1 .0 ∙ inv .4,
       judge-goes (st .args .rules .now) (st .args .sheet .now) (length (st .args .heads .now)) (l .loop .k) (omega (arith, w .before .if1 .taken, w .before .before .wide .ensures)) s
-          (nodes-length (l .loop .heads) (l .loop .positives) (l .loop .negatives) (inv .3 ∙ sym (inv .2)) (inv .4 ∙ sym (inv .2)) ∙ inv .2) (inv .5) _ (lent-record (st .args .sheet .now) (w .wide2 .result) (l .loop .k) (w .wide2 .ensures)) _ _ (c .enum-told .given .1) (j .judge-turn .ensures),
+          (nodes-length (l .loop .heads) (l .loop .positives) (l .loop .negatives) (inv .3 ∙ sym (inv .2)) (inv .4 ∙ sym (inv .2)) ∙ inv .2) (inv .5) _ (lent-is (st .args .sheet .now) (w .wide2 .result) ∙ ap (recordAt narrow (st .args .sheet .now)) (w .wide2 .ensures)) _ _ (c .enum-told .given .1) (j .judge-turn .ensures),
     )
 
 same-length-4 : tie.Need-same-length-4 Inv-loop μ-loop

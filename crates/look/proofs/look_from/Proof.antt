@@ -80,7 +80,8 @@ use Rattle.look.proofs.Shown.{look-val}
 use Rattle.row.proofs.Prims.{sv, nv, Slot-at, call-slot-at}
 use Rattle.replay.proofs.Answers.{Nothing, call-nothing}
 use Rattle.step.proofs.Stepping.{number, number-is, call-step-at, Step}
-use Rattle.step.proofs.Going.{number-fits, lent, lent-is, record-inside, count-fits, at-fits, end-fits, part-fits, at-end}
+use Rattle.sheet.proofs.RecordBytes.{lent, lent-is}
+use Rattle.step.proofs.Going.{number-fits, record-inside, count-fits, at-fits, end-fits, part-fits, at-end}
 use Rattle.look.proofs.upto as upto′
 use Rattle.look.proofs.upto.Symbol as upto-def
 use Rattle.look.proofs.upto.Symbol.{name as #upto}

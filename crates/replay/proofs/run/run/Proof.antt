@@ -84,7 +84,8 @@ use Rattle.step.proofs.Values.{tally-val, step-val, answer-val, node-is}
 use Rattle.row.proofs.Prims.{Find, call-find}
 use Rattle.replay.proofs.Answers.{Nothing, Is-taken, Stopped, Last-of, End, call-nothing, call-taken, call-stopped, call-last, call-end}
 use Rattle.step.proofs.Stepping.{number, number-is, call-step-at, Comes, Step}
-use Rattle.step.proofs.Going.{number-fits, Goes, goes-none, goes-all, goes-on, goes-no-more, lent, record-inside, count-fits, at-fits, end-fits, part-fits, at-end}
+use Rattle.sheet.proofs.RecordBytes.{lent}
+use Rattle.step.proofs.Going.{number-fits, Goes, goes-none, goes-all, goes-on, goes-no-more, record-inside, count-fits, at-fits, end-fits, part-fits, at-end}
 use Rattle.answer.proofs.nothing.Symbol as nothing-def
 use Rattle.answer.proofs.nothing.Symbol.{name as #nothing}
 use Rattle.answer.proofs.nothing.Met as nothing-thm
