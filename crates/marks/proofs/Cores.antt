@@ -20,9 +20,9 @@ use Rattle.sheet.specs.declared.Record.the-variants.{Given, Step, Drop}
 use Rattle.sheet.specs.Records.{Node, given, step, node, nodeAt}
 use Rattle.sheet.specs.Denote.{recordOf}
 use Rattle.sheet.proofs.Record.{the-type}
-use Rattle.pressing.specs.Drops.{markLines, total}
+use Rattle.pressing.specs.Drops.{markNode, markLines, total}
 use Rattle.pressing.proofs.Marks.{length-marks, each-marks}
-use Rattle.marks.specs.Marking.{markNode, LinesBelow}
+use Rattle.marks.specs.Marking.{LinesBelow}
 use Rattle.emit.proofs.Emitting.{from-cons}
 
 pub found-line : (x : Record) (m : Node) (line : LineNo) (c : Clause) → recordOf x ≡ node m → x ≡ Given line c → m ≡ given (line .0) (literalsOf c)
@@ -43,14 +43,10 @@ module _ (s : List Node) (k : ℕ) (line : ℕ) (c : Literals) (q : nodeAt s k �
   unfolding markNode
   line-marked marks = sym (ap (λ (y : Node). markNode y marks) q)
 
-mark-cons : (x : Node) (s : List Node) (marks : List ℕ) → markLines (x ∷ s) marks ≡ markLines s (markNode x marks)
-unfolding markLines markNode
-mark-cons (given line c) s marks = refl
-mark-cons (step p l r c) s marks = refl
-
 module _ (s : List Node) (k : ℕ) where
   pub mark-on : (marks : List ℕ) → k < length s → markLines (after (k + 1) s) (markNode (nodeAt s k) marks) ≡ markLines (after k s) marks
-  mark-on marks h = sym (ap (λ (l : List Node). markLines l marks) (from-cons s k h) ∙ mark-cons (nodeAt s k) (after (k + 1) s) marks)
+  unfolding markLines
+  mark-on marks h = sym (ap (λ (l : List Node). markLines l marks) (from-cons s k h))
 
   pub mark-done : (marks : List ℕ) → length s ≤ k → marks ≡ markLines (after k s) marks
   unfolding markLines

@@ -1,14 +1,10 @@
 -- The marks of rule lines, one node at a time.
 use Prim.Native.Nat.{ℕ, _≤_, _<_}
 use mathlib.Core.List.{List}
-use lib.ListN.{length, set}
+use lib.ListN.{length}
 use Rattle.sheet.specs.Records.{Node, given, step, nodeAt}
 use Rattle.pressing.specs.Drops.{withDrops}
 use Rattle.emit.specs.Emission.{emission, Roomy}
-
-unfoldable pub markNode : Node → List ℕ → List ℕ
-markNode (given line c) marks = set marks line 1
-markNode (step p l r c) marks = marks
 
 -- every given node names one of so many lines
 abbrev pub LineBelow : ℕ → Node → Type 0

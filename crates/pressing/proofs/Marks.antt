@@ -13,13 +13,13 @@ use borrow.Author.Tests.{eq-eqb, ne-eqb}
 use Rattle.base.proofs.Lists.{Each, set-each, getD-blank, zeros-each}
 use Rattle.clause.specs.Clauses.{Literals}
 use Rattle.sheet.specs.Records.{Node, given, step, nodeAt}
-use Rattle.pressing.specs.Drops.{markLines, total}
+use Rattle.pressing.specs.Drops.{markNode, markLines, total}
 use Rattle.pressing.proofs.Playing.{count}
 
 -- ---- marks that are there stay
 
 length-markLines : (s : List Node) (marks : List ℕ) → length (markLines s marks) ≡ length marks
-unfolding markLines
+unfolding markLines markNode
 length-markLines [] marks = refl
 length-markLines (given line c ∷ s) marks = length-markLines s _ ∙ length-set marks _ _
 length-markLines (step p l r c ∷ s) marks = length-markLines s marks
@@ -32,13 +32,13 @@ one-stays (m ∷ marks) (suc k) zero h = h
 one-stays (m ∷ marks) (suc k) (suc line) h = one-stays marks k line h
 
 marks-stay : (s : List Node) (marks : List ℕ) (line : ℕ) → getD marks line 0 ≡ 1 → getD (markLines s marks) line 0 ≡ 1
-unfolding markLines
+unfolding markLines markNode
 marks-stay [] marks line h = h
 marks-stay (given k c ∷ s) marks line h = marks-stay s _ line (one-stays marks _ line h)
 marks-stay (step p l r c ∷ s) marks line h = marks-stay s marks line h
 
-each-markLines : (s : List Node) (marks : List ℕ) → Each 1 marks → Each 1 (markLines s marks)
-unfolding markLines
+pub each-markLines : (s : List Node) (marks : List ℕ) → Each 1 marks → Each 1 (markLines s marks)
+unfolding markLines markNode
 each-markLines [] marks h = h
 each-markLines (given line c ∷ s) marks h = each-markLines s _ (set-each marks _ _ 1 h (omega arith))
 each-markLines (step p l r c ∷ s) marks h = each-markLines s marks h
@@ -54,7 +54,7 @@ later-line x s line (n, d, h, e) = (suc n, d, omega arith, e)
 
 marked : (s : List Node) (marks : List ℕ) (line : ℕ) → line < length marks → (n : ℕ) (d : Literals) → n < length s
     → nodeAt s n ≡ given line d → getD (markLines s marks) line 0 ≡ 1
-unfolding markLines nodeAt
+unfolding markLines markNode nodeAt
 marked [] marks line i n d h e = absurd (omega arith)
 marked (given k c ∷ s) marks line i zero d h e =
     let q : k ≡ line = cc in
@@ -65,7 +65,7 @@ marked (step p l r c ∷ s) marks line i (suc n) d h e = marked s marks line i n
 
 unmarked : (s : List Node) (marks : List ℕ) (line : ℕ) → (getD (markLines s marks) line 0 ≡ 0 → ⊥)
     → LineOf s line ⊎ (getD marks line 0 ≡ 0 → ⊥)
-unfolding markLines
+unfolding markLines markNode
 unmarked [] marks line h = inr h
 unmarked (given k c ∷ s) marks line h = elim (unmarked s (set marks k 1) line h) [
   | inl o ↦ inl (later-line (given k c) s line o)

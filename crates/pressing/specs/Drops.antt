@@ -21,10 +21,13 @@ withDrops [] = []
 withDrops (n ∷ later) = node n ∷ (dropsAfter n later ++ withDrops later)
 
 -- the marks of rule lines, 1 for each line of a given node
+unfoldable pub markNode : Node → List ℕ → List ℕ
+markNode (given line c) marks = set marks line 1
+markNode (step p l r c) marks = marks
+
 unfoldable pub markLines : List Node → List ℕ → List ℕ
 markLines [] marks = marks
-markLines (given line c ∷ s) marks = markLines s (set marks line 1)
-markLines (step p l r c ∷ s) marks = markLines s marks
+markLines (n ∷ s) marks = markLines s (markNode n marks)
 
 unfoldable pub total : List ℕ → ℕ
 total [] = 0
