@@ -18,8 +18,9 @@ use Rattle.sheet.specs.declared.LineNo.{LineNo}
 use Rattle.sheet.specs.Records.{Node, given, step, node, nodeAt}
 use Rattle.sheet.specs.Denote.{recordOf}
 use Rattle.tables.specs.Tables.{nodesIn}
-use Rattle.pressing.specs.Order.{placed, numberIn, renumber, laid}
-use Rattle.order.specs.Placing.{orderIn, Premised, Orderly, Laying, Known, renumberBy}
+use Rattle.pressing.specs.Order.{placed, numberIn, renumber, laid, Parents, InOrder}
+use Rattle.order.specs.Placing.{orderIn}
+use Rattle.lay.specs.Laying.{Laying}
 use Rattle.pressing.proofs.Ordered.{placed-there}
 
 -- ---- what was found, laid
@@ -27,22 +28,26 @@ use Rattle.pressing.proofs.Ordered.{placed-there}
 pub inside : (t : List ℕ) (i : ℕ) → 1 ≤ getD t i 0 → i < length t
 inside t i h = elim (decLt i (length t)) [ yes k ↦ k | no k ↦ absurd (omega (arith, List·getD-eq-default {A = ℕ} t 0 {n = i} (omega arith))) ]
 
+-- a node that has a place in the order
+abbrev HasPlace : List ℕ → ℕ → Type 0
+HasPlace numbers n = 1 ≤ getD numbers n 0
+
 module _ (x : Record) (numbers : List ℕ) where
-  pub known-step : {p : ℕ} {l r : NodeNo} {c : Clause} → x ≡ Step p l r c → ((m : Node) → recordOf x ≡ node m → Known numbers m)
+  pub known-step : {p : ℕ} {l r : NodeNo} {c : Clause} → x ≡ Step p l r c → ((m : Node) → recordOf x ≡ node m → Parents (HasPlace numbers) m)
       → (1 ≤ getD numbers (l .0) 0) × (1 ≤ getD numbers (r .0) 0)
   unfolding recordOf
   known-step q f = f _ (ap recordOf q)
 
-  pub lays-given : (m : Node) {line : LineNo} {c : Clause} → recordOf x ≡ node m → x ≡ Given line c → given (line .0) (literalsOf c) ≡ renumberBy numbers m
-  unfolding recordOf renumberBy
+  pub lays-given : (m : Node) {line : LineNo} {c : Clause} → recordOf x ≡ node m → x ≡ Given line c → given (line .0) (literalsOf c) ≡ renumber (λ n. getD numbers n 0 - 1) m
+  unfolding recordOf renumber
   lays-given m {line} {c} e q =
       let f : recordOf (Given line c) ≡ node m = rw q at e in
       let g : m ≡ given (line .0) (literalsOf c) = cc in
       rw g
 
   pub lays-step : (m : Node) {p : ℕ} {l r : NodeNo} {c : Clause} (i j : ℕ) → recordOf x ≡ node m → x ≡ Step p l r c
-      → i ≡ getD numbers (l .0) 0 - 1 → j ≡ getD numbers (r .0) 0 - 1 → step p i j (literalsOf c) ≡ renumberBy numbers m
-  unfolding recordOf renumberBy
+      → i ≡ getD numbers (l .0) 0 - 1 → j ≡ getD numbers (r .0) 0 - 1 → step p i j (literalsOf c) ≡ renumber (λ n. getD numbers n 0 - 1) m
+  unfolding recordOf renumber
   lays-step m {p} {l} {r} {c} i j e q u v =
       let f : recordOf (Step p l r c) ≡ node m = rw q at e in
       let g : m ≡ step p (l .0) (r .0) (literalsOf c) = cc in
@@ -58,14 +63,14 @@ number-later : (m n : ℕ) (order : List ℕ) → placed n order ≡ false → p
 unfolding numberIn
 number-later m n order f t = rw (ne-eqb m n (λ q. true≢false (sym t ∙ ap (λ (k : ℕ). placed k order) q ∙ f)))
 
-module _ (s : List Node) (k : ℕ) (t : List ℕ) where
-  orderly-at : (c i : ℕ) → i < c → Orderly s k (orderIn t c) → Orderly s k (getD t i 0 ∷ orderIn t i)
+module _ (s : List Node) (Q : ℕ → Type 0) (t : List ℕ) where
+  orderly-at : (c i : ℕ) → i < c → InOrder s Q (orderIn t c) → InOrder s Q (getD t i 0 ∷ orderIn t i)
   unfolding orderIn
   orderly-at zero i h o = absurd (omega arith)
   orderly-at (suc c) i h o = elim (ℕ-discrete i c) [ yes q ↦ rw q o | no q ↦ orderly-at c i (omega arith) (o .3) ]
 
   -- a node keeps its number
-  number-stays : (m c i : ℕ) → i ≤ c → Orderly s k (orderIn t c) → placed m (orderIn t i) ≡ true
+  number-stays : (m c i : ℕ) → i ≤ c → InOrder s Q (orderIn t c) → placed m (orderIn t i) ≡ true
       → (placed m (orderIn t c) ≡ true) × (numberIn (orderIn t c) m ≡ numberIn (orderIn t i) m)
   unfolding orderIn
   number-stays m zero i h o q = let z : i ≡ 0 = omega arith in (rw z at q, rw z)
@@ -85,23 +90,26 @@ module _ {h a b numbers order : List ℕ} {count : ℕ} (L : Laying h a b number
   abbrev n : ℕ
   n = getD order at 0
 
-  here : Orderly s (length h) (n ∷ orderIn order i)
-  here = rw same (orderly-at s (length h) order count i low (L .orderly))
+  abbrev Below : ℕ → Type 0
+  Below m = m < length h
+
+  here : InOrder s Below (n ∷ orderIn order i)
+  here = rw same (orderly-at s Below order count i low (L .orderly))
 
   pub node-inside : n < length h
   node-inside = here .0
 
   has-number : (m : ℕ) → placed m (orderIn order i) ≡ true → getD numbers m 0 ≡ suc (numberIn (orderIn order i) m)
   has-number m q =
-      let (u, v) = number-stays s (length h) order m count i (omega arith) (L .orderly) q in
+      let (u, v) = number-stays s Below order m count i (omega arith) (L .orderly) q in
       rw (u, v) at (L .numbered m)
 
-  known : (m : Node) → Premised (orderIn order i) m → Known numbers m
+  known : (m : Node) → Parents (λ k. placed k (orderIn order i) ≡ true) m → Parents (HasPlace numbers) m
   known (given line c) h = tt
   known (step p l r c) h = (omega (arith, has-number l (h .0)), omega (arith, has-number r (h .1)))
 
-  same-numbers : (m : Node) → Premised (orderIn order i) m → renumberBy numbers m ≡ renumber (orderIn order i) m
-  unfolding renumberBy renumber
+  same-numbers : (m : Node) → Parents (λ k. placed k (orderIn order i) ≡ true) m → renumber (λ n. getD numbers n 0 - 1) m ≡ renumber (numberIn (orderIn order i)) m
+  unfolding renumber
   same-numbers (given line c) h = refl
   same-numbers (step p l r c) h =
       let u : getD numbers l 0 - 1 ≡ numberIn (orderIn order i) l = omega (arith, has-number l (h .0)) in
@@ -109,11 +117,11 @@ module _ {h a b numbers order : List ℕ} {count : ℕ} (L : Laying h a b number
       rw (u, v)
 
   module _ (x : Record) (found : recordOf x ≡ node (nodeAt s n)) where
-    pub parents-known : (m : Node) → recordOf x ≡ node m → Known numbers m
+    pub parents-known : (m : Node) → recordOf x ≡ node m → Parents (HasPlace numbers) m
     parents-known m e = let q : m ≡ nodeAt s n = cc in rw q (known (nodeAt s n) (here .2))
 
-    pub laid-next : (old new : List Node) → i < length old → ((m : Node) → recordOf x ≡ node m → new ≡ set old i (renumberBy numbers m))
+    pub laid-next : (old new : List Node) → i < length old → ((m : Node) → recordOf x ≡ node m → new ≡ set old i (renumber (λ n. getD numbers n 0 - 1) m))
         → take i old ≡ laid s (orderIn order i) → take (i + 1) new ≡ laid s (orderIn order (i + 1))
     unfolding laid orderIn
     laid-next old new o f e =
-        rw (f (nodeAt s n) found, add-one i, take-suc-set old i (renumberBy numbers (nodeAt s n)) o, e, same-numbers (nodeAt s n) (here .2), same)
+        rw (f (nodeAt s n) found, add-one i, take-suc-set old i (renumber (λ n. getD numbers n 0 - 1) (nodeAt s n)) o, e, same-numbers (nodeAt s n) (here .2), same)

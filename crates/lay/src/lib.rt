@@ -6,8 +6,9 @@ ghost use lib.ListN.{length, getD, set, take};
 ghost use Rattle.sheet.specs.Records.{Node, node};
 ghost use Rattle.sheet.specs.Denote.{recordOf};
 ghost use Rattle.tables.specs.Tables.{nodesIn, Nodes};
-ghost use Rattle.pressing.specs.Order.{orderFrom, laid};
-ghost use Rattle.order.specs.Placing.{orderIn, Laying, Known, renumberBy};
+ghost use Rattle.pressing.specs.Order.{orderFrom, renumber, laid, Parents};
+ghost use Rattle.order.specs.Placing.{orderIn};
+ghost use Rattle.lay.specs.Laying.{Laying};
 use sheet::NodeNo;
 use sheet::Record;
 use tables::node;
@@ -31,8 +32,8 @@ fn lay_node(
     negatives2: &mut [u64],
 )
     requires { ⌜ (length (now positives2) ≡ length (now heads2)) × (length (now negatives2) ≡ length (now heads2)) × (k .0 < length (now heads2)) ⌝ }
-    requires { ⌜ ((m : Node) → recordOf found ≡ node m → Known (now numbers) m) ⌝ }
-    ensures { λ _. ⌜ ((m : Node) → recordOf found ≡ node m → nodesIn (now (heads2 .exit)) (now (positives2 .exit)) (now (negatives2 .exit)) ≡ set (nodesIn (now (heads2 .entry)) (now (positives2 .entry)) (now (negatives2 .entry))) (k .0) (renumberBy (now (numbers .entry)) m)) ⌝ }
+    requires { ⌜ ((m : Node) → recordOf found ≡ node m → Parents (λ n. 1 ≤ getD (now numbers) n 0) m) ⌝ }
+    ensures { λ _. ⌜ ((m : Node) → recordOf found ≡ node m → nodesIn (now (heads2 .exit)) (now (positives2 .exit)) (now (negatives2 .exit)) ≡ set (nodesIn (now (heads2 .entry)) (now (positives2 .entry)) (now (negatives2 .entry))) (k .0) (renumber (λ n. getD (now (numbers .entry)) n 0 - 1) m)) ⌝ }
 {
     match found {
         Record::Given { line, clause } => {

@@ -10,9 +10,9 @@ use lib.Seq.{length-take-le}
 use Rattle.base.specs.Tables.{along, zip3}
 use Rattle.sheet.specs.Records.{Node, given, step, nodeAt}
 use Rattle.tables.specs.Tables.{nodeOf, nodesIn, Nodes, Sound}
-use Rattle.pressing.specs.Order.{placed, renumber, orderFrom, laid}
-use Rattle.pressing.proofs.Nodes.{length-more, nodeAt-before, nodeAt-end, Parents}
-use Rattle.pressing.proofs.Ordered.{InOrder, Ordering, orderFrom-ends}
+use Rattle.pressing.specs.Order.{placed, numberIn, renumber, orderFrom, laid, Parents, InOrder}
+use Rattle.pressing.proofs.Nodes.{length-more, nodeAt-before, nodeAt-end}
+use Rattle.pressing.proofs.Ordered.{Ordering, orderFrom-ends}
 use Rattle.pressing.proofs.Laid.{number-below, length-laid, laid-some, laid-fits}
 use Rattle.tables.proofs.Tables.{nodes-falling}
 use Rattle.order.proofs.Placing.{nodes-closed}
@@ -37,7 +37,7 @@ nodes-take k h a b = rw (map-take k nodeOf h, along-take k (map nodeOf h) a) (al
 
 -- ---- sound again
 
-renumber-sound : (order : List ℕ) (n : ℕ) (m : Node) → Parents (λ k. placed k order ≡ true) m → Sound n m → Sound (length order) (renumber order m)
+renumber-sound : (order : List ℕ) (n : ℕ) (m : Node) → Parents (λ k. placed k order ≡ true) m → Sound n m → Sound (length order) (renumber (numberIn order) m)
 unfolding renumber
 renumber-sound order n (given line c) h d = d
 renumber-sound order n (step p l r c) h d = (d .0, number-below l order (h .0), number-below r order (h .1))
@@ -47,7 +47,7 @@ module _ (s : List Node) (Q : ℕ → Type 0) (sound : (n : ℕ) → Q n → Sou
   unfolding laid
   laid-sound [] o n h = absurd (omega arith)
   laid-sound (m ∷ order) o n h =
-      let x = renumber order (nodeAt s m) in
+      let x = renumber (numberIn order) (nodeAt s m) in
       elim (ℕ-discrete n (length (laid s order))) [
         | yes q ↦ rw (q, nodeAt-end (laid s order) x, length-laid s order) (renumber-sound order m (nodeAt s m) (o .2) (sound m (o .0)))
         | no q ↦

@@ -1,4 +1,4 @@
--- `order_from` and `arrange`: tables lent as the front part of an array, the order from a node, and what laying it out may assume.
+-- `order_from`: tables lent as the front part of an array, and the order from a node.
 use Prim.Native.Nat.{ℕ, suc, _≤_, _<_}
 use mathlib.Core.Path.{_≡_, ap, _∙_}
 use mathlib.Core.List.{List, [], _++_}
@@ -7,13 +7,11 @@ use lib.ListN.{length, getD, take, drop, replicate, length-replicate}
 use lib.Seq.{length-front, length-take-le, take-at}
 use Rattle.base.proofs.Lists.{getD-blank}
 use Rattle.sheet.specs.Records.{Node}
-use Rattle.tables.specs.Tables.{nodesIn, Nodes}
+use Rattle.tables.specs.Tables.{Nodes}
 use Rattle.pressing.specs.Trim.{usesFrom}
-use Rattle.pressing.specs.Order.{placed, place, orderFrom, laid}
-use Rattle.order.specs.Placing.{orderIn, Numbered, Placing, Laying}
-use Rattle.pressing.proofs.Laid.{length-laid}
-use Rattle.order.proofs.Placing.{length-orderIn, in-orderly, Made}
-use Rattle.order.proofs.Arranged.{arranged-order, arranged-some, arranged-fits}
+use Rattle.pressing.specs.Order.{placed, place, orderFrom}
+use Rattle.order.specs.Placing.{orderIn, Placing}
+use Rattle.order.proofs.Placing.{Made}
 
 -- ---- the front part of a list, lent and given back
 
@@ -46,27 +44,3 @@ order-found s from counts again order new f e m =
     m (suc from) (omega arith)
     ∙ ap (λ (t : List ℕ). place s (λ k. getD t k 0) (suc from) from []) e
     ∙ ap (λ (u : ℕ → ℕ). place s u (suc from) from []) (λ i k. f k i)
-
--- ---- laying it out
-
-module _ {h a b : List ℕ} (tables : Nodes h a b) {from : ℕ} (inside : from < length h) (order : List ℕ) (k : ℕ)
-    (made : orderIn order k ≡ orderFrom (nodesIn h a b) from) where
-  pub order-count : k ≡ length (laid (nodesIn h a b) (orderFrom (nodesIn h a b) from))
-  order-count = rw (length-laid, ← made, length-orderIn)
-
-  pub count-some : (1 ≤ k) × (k ≤ length h)
-  count-some = (omega (arith, order-count, arranged-some tables from inside), omega (arith, order-count, arranged-fits tables from inside))
-
-  module _ (again : List ℕ) (q : again ≡ order) where
-    pub lays : (numbers numbers′ : List ℕ) → numbers′ ≡ numbers → length order ≡ length h → Numbered numbers (orderIn order k)
-        → Laying h a b numbers′ again k
-    lays numbers numbers′ p long f = record {
-      tables = tables;
-      room = rw q (omega (arith, count-some));
-      orderly = rw (q, made) (in-orderly (nodesIn h a b) (length h) (orderFrom (nodesIn h a b) from) (arranged-order tables from inside));
-      numbered = rw (p, q) f;
-    }
-
-    pub lays-out : (out : List Node) → take k out ≡ laid (nodesIn h a b) (orderIn again k)
-        → take k out ≡ laid (nodesIn h a b) (orderFrom (nodesIn h a b) from)
-    lays-out out e = e ∙ rw (q, made)

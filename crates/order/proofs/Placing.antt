@@ -2,7 +2,7 @@
 use Prim.Native.Nat.{ℕ, zero, suc, _+_, _≤_, _<_}
 use mathlib.Core.Path.{_≡_, refl, sym, ap, _∙_}
 use mathlib.Core.Bool.{Bool, true, false, cond}
-use mathlib.Core.List.{List, [], _∷_}
+use mathlib.Core.List.{List, _∷_}
 use native.Mathlib.Omega.{arith}
 use native.Mathlib.Decide.{ℕ-discrete}
 use native.Mathlib.Numerals.{add-one}
@@ -11,14 +11,14 @@ use lib.Seq.{getD-set-same, getD-set-other}
 use borrow.Author.Tests.{lt-ltb, le-ltb, eq-eqb, ne-eqb}
 use Rattle.base.proofs.Lists.{cond-both}
 use Rattle.clause.specs.Clauses.{Literals}
-use Rattle.sheet.specs.Records.{Node, given, step, nodeAt}
+use Rattle.sheet.specs.Records.{Node, step, nodeAt}
 use Rattle.tables.specs.Tables.{nodesIn, Nodes, Sound}
-use Rattle.pressing.specs.Order.{placed, rightFirst, inTurn, premises, place, numberIn}
-use Rattle.order.specs.Placing.{orderIn, Numbered, Premised, Orderly, Placing}
-use Rattle.pressing.proofs.Nodes.{Parents, falls-further}
+use Rattle.pressing.specs.Order.{placed, rightFirst, inTurn, premises, place, numberIn, Parents, InOrder}
+use Rattle.order.specs.Placing.{orderIn, Numbered, Placing}
+use Rattle.pressing.proofs.Nodes.{falls-further}
 use Rattle.tables.proofs.Tables.{nodes-falling}
 use Rattle.tables.proofs.Found.{IsGiven}
-use Rattle.pressing.proofs.Ordered.{InOrder, place-old, place-new, place-placing}
+use Rattle.pressing.proofs.Ordered.{place-old, place-new, place-placing}
 use Rattle.pressing.proofs.Counted.{order-fits}
 
 -- ---- the premise that goes first
@@ -81,28 +81,6 @@ module _ (numbers order : List ℕ) (n : ℕ) (f : Numbered numbers order) where
       by true q = let z : getD numbers n 0 ≡ 0 = rw (← e) h in absurd (omega (arith, by-place true q))
       by false q = refl
 
--- ---- orderly orders
-
-abbrev Below : ℕ → ℕ → Type 0
-Below k n = n < k
-
-module _ (s : List Node) (k : ℕ) where
-  premised-parents : (order : List ℕ) (m : Node) → Premised order m → Parents (λ n. placed n order ≡ true) m
-  premised-parents order (given line c) h = h
-  premised-parents order (step p l r c) h = h
-
-  parents-premised : (order : List ℕ) (m : Node) → Parents (λ n. placed n order ≡ true) m → Premised order m
-  parents-premised order (given line c) h = h
-  parents-premised order (step p l r c) h = h
-
-  orderly-in : (order : List ℕ) → Orderly s k order → InOrder s (Below k) order
-  orderly-in [] o = tt
-  orderly-in (n ∷ order) o = (o .0, o .1, premised-parents order (nodeAt s n) (o .2), orderly-in order (o .3))
-
-  pub in-orderly : (order : List ℕ) → InOrder s (Below k) order → Orderly s k order
-  in-orderly [] o = tt
-  in-orderly (n ∷ order) o = (o .0, o .1, parents-premised order (nodeAt s n) (o .2), in-orderly order (o .3))
-
 -- ---- sound tables
 
 module _ (h a b : List ℕ) (tables : Nodes h a b) where
@@ -143,11 +121,14 @@ module _ {h a b t numbers order : List ℕ} {n k : ℕ} (P : Placing h a b t num
   abbrev old : List ℕ
   old = orderIn order k
 
-  made-in : (new : List ℕ) → Made s t n old new → InOrder s (Below (length h)) new
+  abbrev Below : ℕ → Type 0
+  Below m = m < length h
+
+  made-in : (new : List ℕ) → Made s t n old new → InOrder s Below new
   made-in new m =
       rw (m (suc n) (omega arith))
-      (place-placing s (uses s t) (nodes-falling (P .tables)) (Below (length h)) (nodes-closed h a b (P .tables)) (suc n) n
-      old (omega arith) (P .inside) (orderly-in s (length h) old (P .orderly)) .order)
+      (place-placing s (uses s t) (nodes-falling (P .tables)) Below (nodes-closed h a b (P .tables)) (suc n) n
+      old (omega arith) (P .inside) (P .orderly) .order)
 
   -- there is room for n
   pub made-fits : (order₁ : List ℕ) (k₁ : ℕ) → Made s t n old (n ∷ orderIn order₁ k₁) → k₁ < length h
@@ -155,7 +136,7 @@ module _ {h a b t numbers order : List ℕ} {n k : ℕ} (P : Placing h a b t num
       omega (
         arith,
         length-orderIn order₁ k₁,
-        order-fits s (Below (length h)) (length h) (λ i o. o) (n ∷ orderIn order₁ k₁) (made-in (n ∷ orderIn order₁ k₁) m),
+        order-fits s Below (length h) (λ i o. o) (n ∷ orderIn order₁ k₁) (made-in (n ∷ orderIn order₁ k₁) m),
       )
 
   -- another call, after this one
@@ -167,7 +148,7 @@ module _ {h a b t numbers order : List ℕ} {n k : ℕ} (P : Placing h a b t num
     counted = P .counted;
     long = p ∙ P .long;
     room = q ∙ P .room;
-    orderly = in-orderly s (length h) (orderIn order₁ k₁) (made-in (orderIn order₁ k₁) m);
+    orderly = made-in (orderIn order₁ k₁) m;
     numbered = f;
   }
 

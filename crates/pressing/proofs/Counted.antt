@@ -11,8 +11,8 @@ use borrow.Author.Tests.{ne-eqb}
 use Rattle.base.proofs.Lists.{cond-both}
 use Rattle.sheet.specs.Records.{Node, nodeAt}
 use Rattle.sheet.specs.Counts.{stepOf, stepsOf}
-use Rattle.pressing.specs.Order.{placed}
-use Rattle.pressing.proofs.Ordered.{placed-here, InOrder}
+use Rattle.pressing.specs.Order.{placed, InOrder}
+use Rattle.pressing.proofs.Ordered.{placed-here}
 
 unfoldable pub sumOver : (ℕ → ℕ) → List ℕ → ℕ
 sumOver f [] = 0

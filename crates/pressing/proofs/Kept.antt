@@ -11,10 +11,10 @@ use Rattle.sheet.specs.Records.{Node, clause, nodeAt}
 use Rattle.pressing.specs.Trim.{sink, usesFrom}
 use Rattle.pressing.specs.Recycle.{Fit, reset, recycle, Fate, fates}
 use Rattle.pressing.specs.Rebuild.{Built, standIn, standing, rebuild}
-use Rattle.pressing.specs.Order.{orderFrom, laid}
+use Rattle.pressing.specs.Order.{orderFrom, laid, Parents}
 use Rattle.pressing.specs.Press.{conclusion, recycled, arranged, pressed}
 use Rattle.pressing.proofs.Proper.{ProperNode, AllProper, Kept}
-use Rattle.pressing.proofs.Nodes.{Parents, proper-falling}
+use Rattle.pressing.proofs.Nodes.{proper-falling}
 use Rattle.pressing.proofs.Literals.{Within, in-none}
 use Rattle.pressing.proofs.Rebuilt.{Rebuilding, rebuilt, IsKept, StandsIn, standIn-sound, standIn-below}
 use Rattle.pressing.proofs.Allowed.{Allowed, allowed-closed, standing-within}

@@ -12,12 +12,12 @@ use Rattle.sheet.specs.Editions.{Edition}
 use Rattle.sheet.specs.Records.{Node, given, step, clause, nodeAt}
 use Rattle.sheet.specs.Counts.{stepOf, stepsOf}
 use Rattle.pressing.specs.Trim.{sink, usesIn, uses}
-use Rattle.pressing.specs.Order.{placed, numberIn, renumber, laid}
+use Rattle.pressing.specs.Order.{placed, numberIn, renumber, laid, Parents, InOrder}
 use Rattle.pressing.specs.Press.{conclusion}
 use Rattle.pressing.proofs.Proper.{ProperNode, AllProper, AllUsed}
-use Rattle.pressing.proofs.Nodes.{length-more, nodeAt-before, nodeAt-end, uses-more, steps-more, all-proper-more, Parents}
+use Rattle.pressing.proofs.Nodes.{length-more, nodeAt-before, nodeAt-end, uses-more, steps-more, all-proper-more}
 use Rattle.pressing.proofs.Trimmed.{uses-left, uses-right, used-parent}
-use Rattle.pressing.proofs.Ordered.{placed-none, placed-cases, placed-here, placed-there, InOrder, UsedLater, Ordering}
+use Rattle.pressing.proofs.Ordered.{placed-none, placed-cases, placed-here, placed-there, UsedLater, Ordering}
 use Rattle.pressing.proofs.Counted.{sumOver, sumBelow, sumBelow-le, steps-below, order-le, order-fits}
 
 -- ---- new numbers
@@ -40,15 +40,15 @@ number-below m (n ∷ order) h = elim (ℕ-discrete m n) [
   ])
 ]
 
-clause-renumber : (order : List ℕ) (m : Node) → clause (renumber order m) ≡ clause m
+clause-renumber : (number : ℕ → ℕ) (m : Node) → clause (renumber number m) ≡ clause m
 unfolding renumber clause
-clause-renumber order (given line c) = refl
-clause-renumber order (step p l r c) = refl
+clause-renumber number (given line c) = refl
+clause-renumber number (step p l r c) = refl
 
-step-renumber : (order : List ℕ) (m : Node) → stepOf (renumber order m) ≡ stepOf m
+step-renumber : (number : ℕ → ℕ) (m : Node) → stepOf (renumber number m) ≡ stepOf m
 unfolding renumber stepOf
-step-renumber order (given line c) = refl
-step-renumber order (step p l r c) = refl
+step-renumber number (given line c) = refl
+step-renumber number (step p l r c) = refl
 
 -- ---- the laid-out nodes
 
@@ -56,22 +56,22 @@ module _ (s : List Node) where
   pub length-laid : (order : List ℕ) → length (laid s order) ≡ length order
   unfolding laid
   length-laid [] = refl
-  length-laid (n ∷ order) = length-more (laid s order) (renumber order (nodeAt s n)) ∙ ap suc (length-laid order)
+  length-laid (n ∷ order) = length-more (laid s order) (renumber (numberIn order) (nodeAt s n)) ∙ ap suc (length-laid order)
 
-  laid-last : (n : ℕ) (order : List ℕ) → nodeAt (laid s (n ∷ order)) (length order) ≡ renumber order (nodeAt s n)
+  laid-last : (n : ℕ) (order : List ℕ) → nodeAt (laid s (n ∷ order)) (length order) ≡ renumber (numberIn order) (nodeAt s n)
   unfolding laid
-  laid-last n order = rw (← (length-laid order)) (nodeAt-end (laid s order) (renumber order (nodeAt s n)))
+  laid-last n order = rw (← (length-laid order)) (nodeAt-end (laid s order) (renumber (numberIn order) (nodeAt s n)))
 
   laid-before : (n : ℕ) (order : List ℕ) (k : ℕ) → k < length order → nodeAt (laid s (n ∷ order)) k ≡ nodeAt (laid s order) k
   unfolding laid
-  laid-before n order k h = nodeAt-before (laid s order) (renumber order (nodeAt s n)) k (rw (length-laid order) h)
+  laid-before n order k h = nodeAt-before (laid s order) (renumber (numberIn order) (nodeAt s n)) k (rw (length-laid order) h)
 
   -- under its new number a node has its clause
   pub clause-laid : (order : List ℕ) (m : ℕ) → placed m order ≡ true
       → clause (nodeAt (laid s order) (numberIn order m)) ≡ clause (nodeAt s m)
   clause-laid [] m h = absurd (placed-none m h)
   clause-laid (n ∷ order) m h = elim (ℕ-discrete m n) [
-    | yes q ↦ rw (q, number-here n order, laid-last n order) (clause-renumber order (nodeAt s n))
+    | yes q ↦ rw (q, number-here n order, laid-last n order) (clause-renumber (numberIn order) (nodeAt s n))
     | no q ↦ elim (placed-cases m n order h) [
       | inl e ↦ absurd (q e)
       | inr k ↦ rw (number-there m n order q, laid-before n order (numberIn order m) (number-below m order k)) (clause-laid order m k)
@@ -79,11 +79,11 @@ module _ (s : List Node) where
   ]
 
   uses-laid : (n : ℕ) (order : List ℕ) (k : ℕ)
-      → uses (laid s (n ∷ order)) k ≡ uses (laid s order) k + usesIn k (renumber order (nodeAt s n))
+      → uses (laid s (n ∷ order)) k ≡ uses (laid s order) k + usesIn k (renumber (numberIn order) (nodeAt s n))
   unfolding laid
-  uses-laid n order k = uses-more (laid s order) (renumber order (nodeAt s n)) k
+  uses-laid n order k = uses-more (laid s order) (renumber (numberIn order) (nodeAt s n)) k
 
-  renumber-uses : (order : List ℕ) (m : ℕ) (x : Node) → 1 ≤ usesIn m x → 1 ≤ usesIn (numberIn order m) (renumber order x)
+  renumber-uses : (order : List ℕ) (m : ℕ) (x : Node) → 1 ≤ usesIn m x → 1 ≤ usesIn (numberIn order m) (renumber (numberIn order) x)
   unfolding renumber
   renumber-uses order m (given line c) h = absurd (unfold usesIn in omega arith)
   renumber-uses order m (step p l r c) h = elim (used-parent m p l r c h) [
@@ -95,14 +95,14 @@ module _ (s : List Node) where
   unfolding laid sumOver
   steps-laid [] = unfold stepsOf in refl
   steps-laid (n ∷ order) =
-      omega (arith, steps-more (laid s order) (renumber order (nodeAt s n)), step-renumber order (nodeAt s n), steps-laid order)
+      omega (arith, steps-more (laid s order) (renumber (numberIn order) (nodeAt s n)), step-renumber (numberIn order) (nodeAt s n), steps-laid order)
 
 module _ (s : List Node) (Q : ℕ → Type 0) where
   -- ---- proper
 
   module _ (e : Edition) (rules : List ℕ) (proper : (n : ℕ) → Q n → ProperNode e rules s n (nodeAt s n)) where
     renumber-proper : (order : List ℕ) (n : ℕ) (m : Node) → Parents (λ k. placed k order ≡ true) m → ProperNode e rules s n m
-        → ProperNode e rules (laid s order) (length (laid s order)) (renumber order m)
+        → ProperNode e rules (laid s order) (length (laid s order)) (renumber (numberIn order) m)
     unfolding renumber
     renumber-proper order n (given line c) h d = d
     renumber-proper order n (step p l r c) h d =
@@ -113,7 +113,7 @@ module _ (s : List Node) (Q : ℕ → Type 0) where
     unfolding laid
     laid-proper [] o = λ n h. absurd (omega arith)
     laid-proper (n ∷ order) o =
-        all-proper-more e rules (laid s order) (renumber order (nodeAt s n)) (laid-proper order (o .3))
+        all-proper-more e rules (laid s order) (renumber (numberIn order) (nodeAt s n)) (laid-proper order (o .3))
         (renumber-proper order n (nodeAt s n) (o .2) (proper n (o .0)))
 
   -- ---- used, and the conclusion
@@ -156,7 +156,7 @@ module _ (s : List Node) (Q : ℕ → Type 0) where
     unfolding conclusion sink
     laid-concludes =
         let i : pred (length (laid s order)) ≡ length (o .rest) = omega (arith, laid-length) in
-        rw (i, o .ends, laid-last s from (o .rest)) (clause-renumber (o .rest) (nodeAt s from))
+        rw (i, o .ends, laid-last s from (o .rest)) (clause-renumber (numberIn (o .rest)) (nodeAt s from))
 
     last-number : numberIn order from ≡ length (o .rest)
     last-number = rw (o .ends) (number-here from (o .rest))

@@ -11,6 +11,7 @@ use Rattle.sheet.specs.Editions.{Edition}
 use Rattle.sheet.specs.Records.{Node, given, step, nodeAt}
 use Rattle.sheet.specs.Counts.{stepOf, stepsOf}
 use Rattle.pressing.specs.Trim.{usesIn, uses}
+use Rattle.pressing.specs.Order.{Parents}
 use Rattle.pressing.proofs.Proper.{ProperNode, AllProper}
 
 -- ---- one more node
@@ -53,11 +54,6 @@ all-proper-more e rules s m f d n h = elim (ℕ-discrete n (length s)) [
 ]
 
 -- ---- parents stand earlier
-
--- both parents of a step are of a kind
-abbrev pub Parents : (ℕ → Type 0) → Node → Type 0
-Parents Q (given line c) = Unit {0}
-Parents Q (step p l r c) = Q l × Q r
 
 abbrev pub Falls : ℕ → Node → Type 0
 Falls n m = Parents (λ k. k < n) m

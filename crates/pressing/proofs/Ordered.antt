@@ -9,8 +9,8 @@ use lib.Dec.{eqb}
 use borrow.Author.Tests.{eqb-true, eq-eqb}
 use Rattle.sheet.specs.Records.{Node, given, step, nodeAt}
 use Rattle.pressing.specs.Trim.{usesIn, usesFrom}
-use Rattle.pressing.specs.Order.{placed, rightFirst, inTurn, premises, place, orderFrom}
-use Rattle.pressing.proofs.Nodes.{Parents, Falls, Falling}
+use Rattle.pressing.specs.Order.{placed, rightFirst, inTurn, premises, place, orderFrom, Parents, InOrder}
+use Rattle.pressing.proofs.Nodes.{Falls, Falling}
 use Rattle.pressing.proofs.Trimmed.{uses-left, uses-right}
 
 -- ---- what is placed
@@ -45,11 +45,6 @@ not-placed n order h = by (placed n order) refl
 -- ---- orders
 
 module _ (s : List Node) (Q : ℕ → Type 0) where
-  -- newest first: each of the kind Q, each once, each after its premises
-  abbrev pub InOrder : List ℕ → Type 0
-  InOrder [] = Unit {0}
-  InOrder (n ∷ order) = Q n × (placed n order ≡ false) × Parents (λ k. placed k order ≡ true) (nodeAt s n) × InOrder order
-
   -- a node that was placed later uses m
   abbrev pub UsedLater : ℕ → List ℕ → Type 0
   UsedLater m [] = ⊥
@@ -59,19 +54,19 @@ module _ (s : List Node) (Q : ℕ → Type 0) where
   pub record Ordering (from : ℕ) (order : List ℕ) : Type 0 where
     pub rest : List ℕ
     pub ends : order ≡ from ∷ rest
-    pub each : InOrder order
+    pub each : InOrder s Q order
     pub used : (n : ℕ) → placed n order ≡ true → (n ≡ from) ⊎ UsedLater n order
 
   -- what it means to place n
   pub record Placing (n : ℕ) (old new : List ℕ) : Type 0 where
-    pub order : InOrder new
+    pub order : InOrder s Q new
     pub here : placed n new ≡ true
     pub grows : (m : ℕ) → placed m old ≡ true → placed m new ≡ true
     pub serves : (m : ℕ) → UsedLater m old → UsedLater m new
     pub bound : (m : ℕ) → placed m new ≡ true → (m ≤ n) ⊎ (placed m old ≡ true)
     pub fresh : (m : ℕ) → placed m new ≡ true → (m ≡ n) ⊎ (UsedLater m new ⊎ (placed m old ≡ true))
 
-  already : (n : ℕ) (old : List ℕ) → InOrder old → placed n old ≡ true → Placing n old old
+  already : (n : ℕ) (old : List ℕ) → InOrder s Q old → placed n old ≡ true → Placing n old old
   already n old o h = record {
     order = o;
     here = h;
@@ -81,7 +76,7 @@ module _ (s : List Node) (Q : ℕ → Type 0) where
     fresh = λ m k. inr (inr k);
   }
 
-  alone : (n : ℕ) (old : List ℕ) → InOrder old → Q n → placed n old ≡ false → Parents (λ k. placed k old ≡ true) (nodeAt s n)
+  alone : (n : ℕ) (old : List ℕ) → InOrder s Q old → Q n → placed n old ≡ false → Parents (λ k. placed k old ≡ true) (nodeAt s n)
       → Placing n old (n ∷ old)
   alone n old o q new h = record {
     order = (q, new, h, o);

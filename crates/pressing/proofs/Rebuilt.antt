@@ -17,8 +17,9 @@ use Rattle.sheet.specs.Records.{Node, given, step, clause, nodeAt}
 use Rattle.sheet.specs.Counts.{stepOf}
 use Rattle.pressing.specs.Recycle.{Cut, cutLeft, cutRight, uncut, Fate, lost, kept}
 use Rattle.pressing.specs.Rebuild.{Built, built, standIn, standing, Way, takeLeft, takeRight, stepAnew, wayOf, standsFor, newStep, byWay, renew, rebuildTurn, rebuild}
+use Rattle.pressing.specs.Order.{Parents}
 use Rattle.pressing.proofs.Proper.{ProperNode, AllProper}
-use Rattle.pressing.proofs.Nodes.{Parents, Falls, Falling, by-rising}
+use Rattle.pressing.proofs.Nodes.{Falls, Falling, by-rising}
 
 -- ---- what the finished tables say of a node
 

@@ -15,7 +15,8 @@ use Rattle.base.proofs.Lists.{cond-both, getD-blank}
 use Rattle.clause.specs.Clauses.{Literals}
 use Rattle.sheet.specs.Records.{Node, given, step, nodeAt}
 use Rattle.pressing.specs.Trim.{keepParents, trimTurn, trim, trimmed, naming, usesIn, uses}
-use Rattle.pressing.proofs.Nodes.{Parents, Falling}
+use Rattle.pressing.specs.Order.{Parents}
+use Rattle.pressing.proofs.Nodes.{Falling}
 
 -- ---- marks
 

@@ -1,6 +1,7 @@
 -- 5. Order (002, bottom-up pebbling, children heuristic): "Starting from the sink, the premises are placed first, then the node itself,
 -- each node once."
 use Prim.Native.Nat.{ℕ, zero, suc}
+use mathlib.Core.Path.{_≡_}
 use mathlib.Core.Bool.{Bool, true, false, _||_, cond}
 use mathlib.Core.List.{List, [], _∷_, _++_}
 use lib.Dec.{eqb, ltb}
@@ -38,11 +39,24 @@ unfoldable pub numberIn : List ℕ → ℕ → ℕ
 numberIn [] n = 0
 numberIn (m ∷ order) n = cond (eqb n m) (length order) (numberIn order n)
 
-unfoldable pub renumber : List ℕ → Node → Node
-renumber order (given line c) = given line c
-renumber order (step p l r c) = step p (numberIn order l) (numberIn order r) c
+-- a node whose parents go by new numbers
+unfoldable pub renumber : (ℕ → ℕ) → Node → Node
+renumber number (given line c) = given line c
+renumber number (step p l r c) = step p (number l) (number r) c
 
 -- the nodes of an order, the oldest first
 unfoldable pub laid : List Node → List ℕ → List Node
 laid s [] = []
-laid s (n ∷ order) = laid s order ++ (renumber order (nodeAt s n) ∷ [])
+laid s (n ∷ order) = laid s order ++ (renumber (numberIn order) (nodeAt s n) ∷ [])
+
+-- ---- "The premises are placed first, then the node itself, each node once", said of an order.
+
+-- both parents of a step are of a kind
+abbrev pub Parents : (ℕ → Type 0) → Node → Type 0
+Parents Q (given line c) = Unit {0}
+Parents Q (step p l r c) = Q l × Q r
+
+-- newest first: each of the kind Q, each once, each after its premises
+abbrev pub InOrder : List Node → (ℕ → Type 0) → List ℕ → Type 0
+InOrder s Q [] = Unit {0}
+InOrder s Q (n ∷ order) = Q n × (placed n order ≡ false) × Parents (λ k. placed k order ≡ true) (nodeAt s n) × InOrder s Q order

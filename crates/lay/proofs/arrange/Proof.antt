@@ -1,7 +1,8 @@
 use mathlib.Core.Path.{sym, _∙_}
 use native.Mathlib.Omega.{arith}
 use lib.Seq.{length-take-le}
-use Rattle.order.proofs.Arranging.{front-long, front-again, order-count, lays, lays-out, count-some}
+use Rattle.order.proofs.Arranging.{front-long, front-again}
+use Rattle.lay.proofs.Arranging.{order-count, lays, lays-out, count-some}
 use borrow.Author.Needs.{needs}
 use Rattle.lay.proofs.arrange.Statement.{statement}
 use Rattle.lay.proofs.arrange.Tie as tie

@@ -18,12 +18,12 @@ enum-known-found-2 c = search needs
 
 number-of-requires : tie.Need-number-of-requires
 number-of-requires c κs = let s = c .before .before .before .before .before .before .before in
-    let k = known-step _ _ (c .before .found2 .given .1) (s .pre .1) in
+    let k = known-step _ (s .args .numbers .now) (c .before .found2 .given .1) (s .pre .1) in
     (inside (s .args .numbers .now) _ (k .0), k .0)
 
 number-of-requires-2 : tie.Need-number-of-requires-2
 number-of-requires-2 c κs = let s = c .before .before .before .before .before .before .before .before in
-    let k = known-step _ _ (c .before .before .found2 .given .1) (s .pre .1) in
+    let k = known-step _ (s .args .numbers .now) (c .before .before .found2 .given .1) (s .pre .1) in
     (inside (s .args .numbers .now) _ (k .1), k .1)
 
 put-step-requires : tie.Need-put-step-requires
