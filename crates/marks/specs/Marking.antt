@@ -1,4 +1,4 @@
--- The marks of rule lines, one node at a time.
+-- What marking the rule lines of given nodes may assume, and emitting them.
 use Prim.Native.Nat.{ℕ, _≤_, _<_}
 use mathlib.Core.List.{List}
 use lib.ListN.{length}
