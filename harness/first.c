@@ -1,4 +1,4 @@
-/* Presses document 01's pair, replays what comes out, and prints both reports. */
+/* Presses the scope document's pair, replays what comes out, and prints both reports. */
 #include "tempuquile.h"
 #include <stdio.h>
 

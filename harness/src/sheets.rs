@@ -48,7 +48,7 @@ pub fn all() -> [Sheet; 5] {
     ]
 }
 
-/// Document 01's *pair*.
+/// The scope document's *pair*.
 pub fn pair() -> Draft {
     tree(1)
 }

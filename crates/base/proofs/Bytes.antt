@@ -7,7 +7,7 @@ use native.Mathlib.Numerals.{add-one}
 use native.Mathlib.Omega.{arith}
 use lib.Arith.{mod-mul}
 use lib.ListN.{length, getD, set, take, drop, length-append, length-drop, take-append-drop}
-use lib.Seq.{take-add, take-at, drop-at, drop-drop, drop-append-add, set-split, length-take-le, getD-drop, append-snoc, take-suc}
+use lib.Seq.{take-add, take-at, drop-at, drop-drop, drop-append-add, set-split, length-take-le, getD-take, getD-drop, append-snoc, take-suc}
 use Rattle.base.specs.Bytes.{value, bytes, part, valueAt, put}
 
 -- ---- the number that bytes say
@@ -101,6 +101,10 @@ part-suc k s o h =
 pub length-part : (k : ℕ) (s : List ℕ) (o : ℕ) → o + k ≤ length s → length (part k s o) ≡ k
 unfolding part
 length-part k s o h = length-take-le k (drop o s) (simp length-drop (omega arith))
+
+pub getD-part : (n : ℕ) (s : List ℕ) (o j : ℕ) → j < n → getD (part n s o) j 0 ≡ getD s (o + j) 0
+unfolding part
+getD-part n s o j h = getD-take n (drop o s) j 0 h ∙ getD-drop o s j 0
 
 -- ---- stores
 

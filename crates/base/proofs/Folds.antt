@@ -41,3 +41,7 @@ pub fall-by : {S : Type 0} (P : ℕ → S → Type 0) (f : ℕ → S → S) (n :
 unfolding fall
 fall-by P f zero s k h = h
 fall-by P f (suc n) s k h = fall-by P f n (f n s) (λ i t l. k i t (omega arith)) (k n s (omega arith) h)
+
+pub fall-keeps : {S : Type 0} (P : S → Type 0) (f : ℕ → S → S)
+    → ((i : ℕ) (t : S) → P t → P (f i t)) → (n : ℕ) (s : S) → P s → P (fall f n s)
+fall-keeps P f k n s h = fall-by (λ i. P) f n s (λ i t l. k i t) h

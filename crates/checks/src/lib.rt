@@ -1,4 +1,4 @@
-// The checks that press and replay share, each on values, in the order of document 01.
+// The checks that press and replay share, each on values, in the order of the scope document.
 ghost use mathlib.Core.Path.{_≡_};
 ghost use Rattle.clause.specs.Denote.{literalsOf};
 ghost use Rattle.sheet.specs.Editions.{narrow};

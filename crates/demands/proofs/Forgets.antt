@@ -43,8 +43,7 @@ module _ (e : Edition) (rules out₁ out₂ marks₁ marks₂ : List ℕ) where
         let core = markLines s (replicate lines 0) in
         let q : length (withDrops s) ≡ records = cc in
         let sized : length bytes ≡ recordBytes e * records = length-sheetBytes e (withDrops s) ∙ ap (λ (n : ℕ). recordBytes e * n) q in
-        let long : length core ≡ lines = length-marks s lines in
-        (
+        let long : length core ≡ lines = length-marks s lines in (
           front out₁ bytes _ sized ∙ sym (front out₂ bytes _ sized),
           front marks₁ core _ long ∙ sym (front marks₂ core _ long),
         );

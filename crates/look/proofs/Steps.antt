@@ -4,7 +4,7 @@ use mathlib.Core.Path.{_≡_, refl, ap}
 use mathlib.Core.List.{List}
 use Rattle.sheet.specs.Editions.{Edition}
 use Rattle.sheet.specs.Fields.{recordAt}
-use Rattle.replaying.specs.Step.{State, Stepped, stepped, oneStep}
+use Rattle.replaying.specs.Step.{State, stepped, oneStep}
 use Rattle.replaying.proofs.Steps.{afterSteps, answerAt}
 use Rattle.look.specs.After.{afterRecords}
 

@@ -1,4 +1,4 @@
--- What every press keeps, for any cuts that are Allowed and any order that ends with the sink; and the press of document 01 as one of these.
+-- What every press keeps, for any cuts that are Allowed and any order that ends with the sink; and the press of the scope document as one of these.
 use Prim.Native.Nat.{ℕ, _≤_, _<_, pred}
 use mathlib.Core.Path.{refl}
 use mathlib.Core.Logic.{inl, inr}

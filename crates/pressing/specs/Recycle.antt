@@ -13,7 +13,7 @@ pub data Reach : Type 0 where
   unreached : Reach
   reached : Literals → Reach
 
--- How a set is fitted to the node that it is handed to, which was unreached or reached before. Document 01's rule, `reset`, has no use for what the
+-- How a set is fitted to the node that it is handed to, which was unreached or reached before. The scope document's rule, `reset`, has no use for what the
 -- node had before; it stands here so that a rule that joins what several uses hand over is another `Fit` and no other pass.
 abbrev pub Fit : Type 0
 Fit = ℕ → Reach → Literals → Literals

@@ -1,4 +1,4 @@
-// Reading a record: its fields by the columns of document 01's table, then its kind (6), the bytes that must be zero (7), the pivot (8).
+// Reading a record: its fields by the columns of the scope document's table, then its kind (6), the bytes that must be zero (7), the pivot (8).
 ghost use mathlib.Core.Path.{_≡_};
 ghost use Prim.Native.Nat.{_+_, _≤_};
 ghost use lib.ListN.{length};

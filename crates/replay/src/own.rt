@@ -13,7 +13,11 @@ use answer::ReplayAnswer;
 pub fn enough(slots: usize) -> usize
     ensures { λ n. ⌜ n ≡ min slots 1023 ⌝ }
 {
-    if slots < sheet::limits::REPLAY_RECORDS { slots } else { sheet::limits::REPLAY_RECORDS }
+    if slots < sheet::limits::REPLAY_RECORDS {
+        slots
+    } else {
+        sheet::limits::REPLAY_RECORDS
+    }
 }
 
 pub fn replay_in(sheet: &[u8], rules: &[u8], slots: usize) -> ReplayAnswer

@@ -1,4 +1,4 @@
-// The numbers of document 01, as the code uses them.
+// The numbers of the scope document, as the code uses them.
 pub const VARIABLES: u8 = 64;
 
 pub const RECORD_BYTES: usize = 24;

@@ -1,4 +1,4 @@
-// The worked sheets of document 01 and the directed cases, from the stream in this crate's `stdin`.
+// The worked sheets of the scope document and the directed cases, from the stream in this crate's `stdin`.
 fn main() {
     casework::run();
 }

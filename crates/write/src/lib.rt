@@ -1,4 +1,4 @@
-// Writing a record, by the columns of document 01's table.
+// Writing a record, by the columns of the scope document's table.
 ghost use mathlib.Core.Path.{_≡_};
 ghost use Prim.Native.Nat.{_+_, _*_, _≤_};
 ghost use lib.ListN.{length};
