@@ -1,4 +1,4 @@
--- One law for each way through the emitting pass.
+-- What counting a record, and the places that name a node, come to.
 use mathlib.Core.Path.{_≡_, refl, sym, ap, _∙_}
 use mathlib.Core.Bool.{Bool, true, false, not, cond, true≢false}
 use mathlib.Core.List.{List, _∷_}

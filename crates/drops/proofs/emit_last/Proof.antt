@@ -4,7 +4,7 @@ use Rattle.sheet.specs.Denote.{recordOf}
 use Rattle.tables.specs.Tables.{nodesIn}
 use Rattle.pressing.proofs.Playing.{usedIn}
 use Rattle.emit.specs.Emission.{emissionOf}
-use Rattle.emit.proofs.Rooms.{last-kept, last-dropped, last-room}
+use Rattle.drops.proofs.Rooms.{last-kept, last-dropped, last-room}
 use borrow.Author.Needs.{needs}
 use Rattle.drops.proofs.emit_last.Statement.{statement}
 use Rattle.drops.proofs.emit_last.Tie as tie

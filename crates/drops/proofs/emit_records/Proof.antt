@@ -7,7 +7,7 @@ use Rattle.pressing.specs.Drops.{withDrops}
 use Rattle.tables.specs.Tables.{nodesIn}
 use Rattle.emit.specs.Emission.{Emission, emission, emissionOf, emitAll, Roomy}
 use Rattle.tables.proofs.Tables.{nodes-length}
-use Rattle.emit.proofs.Rooms.{emit-room, emit-room-left, emit-on, emit-done}
+use Rattle.drops.proofs.Rooms.{emit-room, emit-room-left, emit-on, emit-done}
 use borrow.Author.Needs.{needs}
 use Rattle.drops.proofs.emit_records.Statement.{statement}
 use Rattle.drops.proofs.emit_records.Tie as tie

@@ -4,7 +4,7 @@ use Rattle.sheet.specs.Records.{Node, Record, node, nodeAt}
 use Rattle.tables.specs.Tables.{nodesIn}
 use Rattle.emit.specs.Emission.{Emission, emissionOf, emitRecord}
 use Rattle.tables.proofs.Found.{found-given, found-step}
-use Rattle.emit.proofs.Rooms.{turn-room, turn-given, Stepped, same-room, turn-same, low-room, high-room, turn-two}
+use Rattle.drops.proofs.Rooms.{turn-room, turn-given, Stepped, same-room, turn-same, low-room, high-room, turn-two}
 use borrow.Author.Needs.{needs}
 use Rattle.drops.proofs.emit_turn.Statement.{statement}
 use Rattle.drops.proofs.emit_turn.Tie as tie

@@ -1,4 +1,4 @@
--- Room for the records that are still to come, and what a turn of the emitting pass makes of it.
+-- Room for the records that are still to come, and what the turn at a node, with its drops, makes of it.
 use mathlib.Core.Path.{_≡_, sym, ap, _∙_}
 use mathlib.Core.Bool.{true, false}
 use mathlib.Core.List.{List, [], _∷_, _++_, append-nil}
