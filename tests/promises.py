@@ -1,8 +1,8 @@
 #!/usr/bin/env python3
 """promises.py [--write]: what every public function promises, and that nothing in the tree is silent, too long or uncited.
 
-Lists each `pub fn` of crates/*/src with its contract, but for those of private modules, and holds docs/CONTRACTS.md to that list (--write makes the
-page anew). It is an error if
+Lists each `pub fn` of crates/*/src with its contract, and holds docs/CONTRACTS.md to that list (--write makes the page anew). What is
+`pub(crate)` is no other crate's, and not listed. It is an error if
   - a public function has no `ensures` with an equation, has one under a condition, or has a `requires`, and docs/PROMISES.md does not name it
     among the exceptions;
   - a public function's `ensures` says of memory that it is lent nothing, its length alone, or only what a view of it shows, and docs/PROMISES.md
@@ -36,7 +36,7 @@ def functions(path):
     lines = path.read_text().split("\n")
     at = 0
     while at < len(lines):
-        found = re.match(r'(pub )?(?:extern "C" )?fn (\w+)', lines[at])
+        found = re.match(r'(pub )?(?:pub\(crate\) )?(?:extern "C" )?fn (\w+)', lines[at])
         if not found:
             at += 1
             continue
@@ -56,12 +56,6 @@ def path_of(path):
     crate = path.relative_to(CRATES).parts[0]
     module = path.relative_to(CRATES / crate / "src").with_suffix("").parts
     return "::".join([crate, *(m for m in module if m not in ("lib", "main"))])
-
-
-def private(path):
-    """Whether a source file is a module that its crate's root declares without `pub`."""
-    roots = [path.parent / name for name in ("lib.rt", "main.rt") if (path.parent / name).exists()]
-    return any(re.search(rf"^mod {path.stem};", root.read_text(), re.M) for root in roots)
 
 
 def exceptions():
@@ -152,14 +146,14 @@ def main():
     wrong, page, checked = [], HEAD, 0
     allowed = exceptions()
     for path in sorted(CRATES.glob("*/src/**/*.rt")):
-        if not private(path) and any(public for _, public, *_ in functions(path)):
+        if any(public for _, public, *_ in functions(path)):
             page += f"\n## {path_of(path)}\n"
         for name, public, at, length, clauses, lent in functions(path):
             function = f"{path_of(path)}::{name}"
             checked += 1
             if length > FUNCTION_LINES:
                 wrong.append(f"{function} has {length} lines")
-            if not public or private(path):
+            if not public:
                 continue
             text = "\n".join(clauses["ensures"])
             faults = {

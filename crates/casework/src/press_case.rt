@@ -68,7 +68,7 @@ fn run_in(sheet: &[u8], rules: &[u8], room: usize, marks: usize, out: &mut [u8],
     print_outcome(answer, lines, out, core);
 }
 
-pub fn run(sheet: &[u8], rules: &[u8], room: usize, marks: usize) {
+pub(crate) fn run(sheet: &[u8], rules: &[u8], room: usize, marks: usize) {
     let mut out = [OLD; 24612];
     let mut core = [OLD; 1084];
     run_in(sheet, rules, room, marks, &mut out, &mut core);

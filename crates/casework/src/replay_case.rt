@@ -15,7 +15,7 @@ fn print_replayed(r: Replayed) {
     text::print_count(b" peak ", r.peak);
 }
 
-pub fn run(sheet: &[u8], rules: &[u8], slots: usize) {
+pub(crate) fn run(sheet: &[u8], rules: &[u8], slots: usize) {
     let answer = replay::own::replay_in(sheet, rules, slots);
     match answer {
         ReplayAnswer::Accepted(r) => print_replayed(r),
@@ -84,7 +84,7 @@ fn print_record(sheet: &[u8], rules: &[u8], slots: usize, records: usize) -> boo
 }
 
 // Record after record, up to one that is refused; none where the lengths are.
-pub fn show(sheet: &[u8], rules: &[u8], slots: usize) {
+pub(crate) fn show(sheet: &[u8], rules: &[u8], slots: usize) {
     let verdict = checks::check_lengths(sheet::limits::REPLAY_RECORDS, sheet.len(), rules.len());
     let Verdict::Fine = verdict else {
         return;

@@ -104,7 +104,7 @@ fn press_nodes(
 }
 
 // The records of a sheet whose lengths pass 1 to 5, in tables of as many nodes.
-pub fn press_records(
+pub(crate) fn press_records(
     sheet: &[u8],
     rules: &[u8],
     heads: &mut [u64],

@@ -14,7 +14,7 @@ use sheet::RecordNo;
 use slots::Slot;
 use slots::Sought;
 
-pub fn run(sheet: &[u8], rules: &[u8], slots: &mut [Slot]) -> ReplayAnswer
+pub(crate) fn run(sheet: &[u8], rules: &[u8], slots: &mut [Slot]) -> ReplayAnswer
     requires { ⌜ checkLengths narrow (replayRecords narrow) (length (now sheet)) (length (now rules)) ≡ Fine ⌝ }
     ensures { λ r. ⌜ (said r ≡ run narrow (now (rules .entry)) (now (sheet .entry)) (length (now (sheet .entry)) / 24) 0 (state (tally 0 0 0 0) (rowOf (now (slots .entry))))) × (length (now (slots .exit)) ≡ length (now (slots .entry))) ⌝ }
 {

@@ -29,7 +29,13 @@ fn trim_turn(heads: &[u64], positives: &[u64], negatives: &[u64], n: NodeNo, kep
 }
 
 // 1 for each node that `from` reaches, 0 for each other.
-pub fn trim(heads: &[u64], positives: &[u64], negatives: &[u64], from: NodeNo, kept: &mut [u8])
+pub(crate) fn trim(
+    heads: &[u64],
+    positives: &[u64],
+    negatives: &[u64],
+    from: NodeNo,
+    kept: &mut [u8],
+)
     requires { ⌜ Nodes (now heads) (now positives) (now negatives) ⌝ }
     requires { ⌜ (length (now kept) ≡ length (now heads)) × (from .0 < length (now heads)) ⌝ }
     ensures { λ _. ⌜ now (kept .exit) ≡ trim (nodesIn (now (heads .entry)) (now (positives .entry)) (now (negatives .entry))) (from .0) ⌝ }

@@ -5,7 +5,7 @@ use sheet::RecordNo;
 use stdio::text;
 
 // ok records 5 nodes 3 steps 1 peak 3 core 2
-pub fn accepted(p: Pressed) {
+pub(crate) fn accepted(p: Pressed) {
     text::print_count(b"ok records ", p.records);
     text::print_count(b" nodes ", p.nodes);
     text::print_count(b" steps ", p.steps);
@@ -15,7 +15,7 @@ pub fn accepted(p: Pressed) {
 }
 
 // refused 9 at 2, and for 1 to 5 refused 3
-pub fn refused(why: Reason, k: RecordNo) {
+pub(crate) fn refused(why: Reason, k: RecordNo) {
     let number = sheet::number_of(why);
     text::print_number(b"refused ", number as u64);
     if 5 < number {
