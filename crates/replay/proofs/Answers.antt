@@ -31,40 +31,40 @@ use Rattle.sheet.proofs.NodeNo as N
 use Rattle.sheet.proofs.NodeNo.Laws as N′
 use Rattle.sheet.proofs.Verdict as J
 use Rattle.sheet.proofs.Verdict.Laws as J′
-use Rattle.replaying.specs.Slots.{Slot as RowSlot, holding}
-use Rattle.replaying.specs.Step.{state, tally, passes}
-use Rattle.replaying.specs.Replay.{ending}
-use Rattle.slots.specs.declared.Tally.{Tally}
-use Rattle.slots.specs.declared.Found.{Found}
-use Rattle.slots.specs.declared.StepAnswer.{StepAnswer}
-use Rattle.slots.specs.Search.{search}
-use Rattle.slots.specs.Said.{saidOfStep, tallyOf, foundOf}
-use Rattle.slots.proofs.Tally as Y
-use Rattle.slots.proofs.Tally.Laws as Y′
-use Rattle.slots.proofs.Found as F
-use Rattle.slots.proofs.Found.Laws as F′
-use Rattle.slots.proofs.StepAnswer as S
-use Rattle.slots.proofs.StepAnswer.Laws as S′
-use Rattle.answer.specs.declared.ReplayAnswer.{ReplayAnswer}
-use Rattle.answer.specs.Answers.{said, isTaken, refusedBy, stoppedBy}
-use Rattle.answer.proofs.ReplayAnswer as B
-use Rattle.answer.proofs.ReplayAnswer.Laws as B′
-use Rattle.row.proofs.Cells.{fv}
-use Rattle.step.proofs.Values.{tally-val, step-val, answer-val, verdict-val, node-val}
-use Rattle.answer.proofs.nothing as nothing′
-use Rattle.answer.proofs.nothing.Symbol.{name as #nothing}
-use Rattle.answer.proofs.is_taken as taken′
-use Rattle.answer.proofs.is_taken.Symbol.{name as #taken}
-use Rattle.answer.proofs.stopped as stopped′
-use Rattle.answer.proofs.stopped.Symbol.{name as #stopped}
-use Rattle.answer.proofs.last_of as last′
-use Rattle.answer.proofs.last_of.Symbol.{name as #last}
-use Rattle.answer.proofs.end as end′
-use Rattle.answer.proofs.end.Symbol.{name as #end}
-use Rattle.answer.proofs.passes as passes′
-use Rattle.answer.proofs.passes.Symbol.{name as #passes}
-use Rattle.answer.proofs.refused as refused′
-use Rattle.answer.proofs.refused.Symbol.{name as #refused}
+use Rattle.replay_spec.specs.Slots.{Slot as RowSlot, holding}
+use Rattle.replay_spec.specs.Step.{state, tally, passes}
+use Rattle.replay_spec.specs.Replay.{ending}
+use Rattle.replay_slots.specs.declared.Tally.{Tally}
+use Rattle.replay_slots.specs.declared.Found.{Found}
+use Rattle.replay_slots.specs.declared.StepAnswer.{StepAnswer}
+use Rattle.replay_slots.specs.Search.{search}
+use Rattle.replay_slots.specs.Said.{saidOfStep, tallyOf, foundOf}
+use Rattle.replay_slots.proofs.Tally as Y
+use Rattle.replay_slots.proofs.Tally.Laws as Y′
+use Rattle.replay_slots.proofs.Found as F
+use Rattle.replay_slots.proofs.Found.Laws as F′
+use Rattle.replay_slots.proofs.StepAnswer as S
+use Rattle.replay_slots.proofs.StepAnswer.Laws as S′
+use Rattle.replay_answer.specs.declared.ReplayAnswer.{ReplayAnswer}
+use Rattle.replay_answer.specs.Answers.{said, isTaken, refusedBy, stoppedBy}
+use Rattle.replay_answer.proofs.ReplayAnswer as B
+use Rattle.replay_answer.proofs.ReplayAnswer.Laws as B′
+use Rattle.replay_row.proofs.Cells.{fv}
+use Rattle.replay_step.proofs.Values.{tally-val, step-val, answer-val, verdict-val, node-val}
+use Rattle.replay_answer.proofs.nothing as nothing′
+use Rattle.replay_answer.proofs.nothing.Symbol.{name as #nothing}
+use Rattle.replay_answer.proofs.is_taken as taken′
+use Rattle.replay_answer.proofs.is_taken.Symbol.{name as #taken}
+use Rattle.replay_answer.proofs.stopped as stopped′
+use Rattle.replay_answer.proofs.stopped.Symbol.{name as #stopped}
+use Rattle.replay_answer.proofs.last_of as last′
+use Rattle.replay_answer.proofs.last_of.Symbol.{name as #last}
+use Rattle.replay_answer.proofs.end as end′
+use Rattle.replay_answer.proofs.end.Symbol.{name as #end}
+use Rattle.replay_answer.proofs.passes as passes′
+use Rattle.replay_answer.proofs.passes.Symbol.{name as #passes}
+use Rattle.replay_answer.proofs.refused as refused′
+use Rattle.replay_answer.proofs.refused.Symbol.{name as #refused}
 
 module _ {M : Type 1} (𝓤 : URA M) (H : Heap 𝓤) (A : Atoms 𝓤) (mem : Memory → SProp 𝓤) (run : Routine → Fun 𝓤) where
   abbrev pub Nothing : Contract 𝓤

@@ -5,10 +5,10 @@ use native.Mathlib.Omega.{arith}
 use mathlib.Core.List.{List, _∷_}
 use lib.ListN.{length, replicate, length-replicate}
 use denote.Slice.{Room}
-use Rattle.replaying.specs.Slots.{Slot as RowSlot}
-use Rattle.slots.specs.Said.{slotOf, rowOf}
-use Rattle.slots.specs.declared.Slot.{Slot}
-use Rattle.slots.proofs.Slot as T
+use Rattle.replay_spec.specs.Slots.{Slot as RowSlot}
+use Rattle.replay_slots.specs.Said.{slotOf, rowOf}
+use Rattle.replay_slots.specs.declared.Slot.{Slot}
+use Rattle.replay_slots.proofs.Slot as T
 
 pub row-replicate : (n : ℕ) (s : Slot) → rowOf (replicate n s) ≡ replicate n (slotOf s)
 unfolding rowOf

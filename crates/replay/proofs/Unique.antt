@@ -4,16 +4,16 @@ use mathlib.Core.List.{List, [], _∷_}
 use Rattle.clause.specs.Denote.{literalsOf}
 use Rattle.sheet.specs.Reasons.{numberOf}
 use Rattle.sheet.proofs.Reasons.{numberOf-injective}
-use Rattle.replaying.specs.Step.{state, Stepped, stepped}
-use Rattle.replaying.specs.Replay.{Outcome, outcome}
-use Rattle.slots.specs.declared.Slot.{Slot as CodeSlot}
-use Rattle.slots.specs.declared.Tally.{Tally as CodeTally}
-use Rattle.slots.specs.declared.StepAnswer.{StepAnswer}
-use Rattle.slots.specs.declared.StepAnswer.the-variants as S
-use Rattle.slots.specs.Said.{slotOf, rowOf, tallyOf, saidOfStep}
-use Rattle.answer.specs.declared.ReplayAnswer.{ReplayAnswer}
-use Rattle.answer.specs.declared.ReplayAnswer.the-variants as A
-use Rattle.answer.specs.Answers.{said}
+use Rattle.replay_spec.specs.Step.{state, Stepped, stepped}
+use Rattle.replay_spec.specs.Replay.{Outcome, outcome}
+use Rattle.replay_slots.specs.declared.Slot.{Slot as CodeSlot}
+use Rattle.replay_slots.specs.declared.Tally.{Tally as CodeTally}
+use Rattle.replay_slots.specs.declared.StepAnswer.{StepAnswer}
+use Rattle.replay_slots.specs.declared.StepAnswer.the-variants as S
+use Rattle.replay_slots.specs.Said.{slotOf, rowOf, tallyOf, saidOfStep}
+use Rattle.replay_answer.specs.declared.ReplayAnswer.{ReplayAnswer}
+use Rattle.replay_answer.specs.declared.ReplayAnswer.the-variants as A
+use Rattle.replay_answer.specs.Answers.{said}
 
 pub said-injective : (r₁ r₂ : ReplayAnswer) → said r₁ ≡ said r₂ → r₁ ≡ r₂
 unfolding said

@@ -8,13 +8,13 @@ use Rattle.sheet.specs.declared.Verdict.{Verdict}
 use Rattle.sheet.specs.declared.Verdict.the-variants.{Fine, Refused}
 use Rattle.sheet.specs.Editions.{narrow, replayRecords}
 use Rattle.sheet.specs.Checks.{checkLengths}
-use Rattle.replaying.specs.Slots.{Slot as RowSlot, empty, cleared}
-use Rattle.replaying.specs.Step.{state, tally, passes}
-use Rattle.replaying.specs.Replay.{Answer, run, start, outcome, byLengths, replay}
-use Rattle.slots.specs.declared.Slot.{Slot}
-use Rattle.slots.specs.Said.{rowOf}
-use Rattle.answer.specs.Answers.{refusedBy}
-use Rattle.slots.proofs.Rows.{row-length}
+use Rattle.replay_spec.specs.Slots.{Slot as RowSlot, empty, cleared}
+use Rattle.replay_spec.specs.Step.{state, tally, passes}
+use Rattle.replay_spec.specs.Replay.{Answer, run, start, outcome, byLengths, replay}
+use Rattle.replay_slots.specs.declared.Slot.{Slot}
+use Rattle.replay_slots.specs.Said.{rowOf}
+use Rattle.replay_answer.specs.Answers.{refusedBy}
+use Rattle.replay_slots.proofs.Rows.{row-length}
 
 pub fine-is : (v : Verdict) → passes v ≡ true → v ≡ Fine
 unfolding passes

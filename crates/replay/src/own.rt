@@ -4,10 +4,10 @@ ghost use mathlib.Core.Path.{_≡_};
 ghost use Prim.Native.Nat.{min};
 ghost use lib.ListN.{replicate};
 ghost use Rattle.sheet.specs.Editions.{narrow};
-ghost use Rattle.replaying.specs.Slots.{empty};
-ghost use Rattle.replaying.specs.Replay.{replay};
-ghost use Rattle.answer.specs.Answers.{said};
-use answer::ReplayAnswer;
+ghost use Rattle.replay_spec.specs.Slots.{empty};
+ghost use Rattle.replay_spec.specs.Replay.{replay};
+ghost use Rattle.replay_answer.specs.Answers.{said};
+use replay_answer::ReplayAnswer;
 
 // At most 1,023.
 pub fn enough(slots: usize) -> usize
@@ -23,7 +23,7 @@ pub fn enough(slots: usize) -> usize
 pub fn replay_in(sheet: &[u8], rules: &[u8], slots: usize) -> ReplayAnswer
     ensures { λ r. ⌜ said r ≡ replay narrow (now (sheet .entry)) (now (rules .entry)) (replicate slots empty) .answer ⌝ }
 {
-    let none = slots::empty();
+    let none = replay_slots::empty();
     let mut row = [none; 1023];
     let n = enough(slots);
     crate::replay(sheet, rules, &mut row[..n])

@@ -5,32 +5,32 @@ ghost use lib.ListN.{length};
 ghost use Rattle.sheet.specs.declared.Verdict.the-variants.{Fine};
 ghost use Rattle.sheet.specs.Editions.{narrow, replayRecords};
 ghost use Rattle.sheet.specs.Checks.{checkLengths};
-ghost use Rattle.replaying.specs.Step.{tally, state};
-ghost use Rattle.replaying.specs.Replay.{run};
-ghost use Rattle.slots.specs.Said.{rowOf};
-ghost use Rattle.answer.specs.Answers.{said};
-use answer::ReplayAnswer;
+ghost use Rattle.replay_spec.specs.Step.{tally, state};
+ghost use Rattle.replay_spec.specs.Replay.{run};
+ghost use Rattle.replay_slots.specs.Said.{rowOf};
+ghost use Rattle.replay_answer.specs.Answers.{said};
+use replay_answer::ReplayAnswer;
+use replay_slots::Slot;
+use replay_slots::Sought;
 use sheet::RecordNo;
-use slots::Slot;
-use slots::Sought;
 
 pub(crate) fn run(sheet: &[u8], rules: &[u8], slots: &mut [Slot]) -> ReplayAnswer
     requires { ⌜ checkLengths narrow (replayRecords narrow) (length (now sheet)) (length (now rules)) ≡ Fine ⌝ }
     ensures { λ r. ⌜ (said r ≡ run narrow (now (rules .entry)) (now (sheet .entry)) (length (now (sheet .entry)) / 24) 0 (state (tally 0 0 0 0) (rowOf (now (slots .entry))))) × (length (now (slots .exit)) ≡ length (now (slots .entry))) ⌝ }
 {
     let records = sheet.len() / sheet::limits::RECORD_BYTES;
-    let mut t = answer::nothing();
+    let mut t = replay_answer::nothing();
     let mut k = 0;
     while k < records {
         let at = sheet::limits::RECORD_BYTES * k;
         let end = at + sheet::limits::RECORD_BYTES;
-        let said = step::step(slots, &mut t, rules, &sheet[at..end], RecordNo(k));
-        if answer::is_taken(said) {
+        let said = replay_step::step(slots, &mut t, rules, &sheet[at..end], RecordNo(k));
+        if replay_answer::is_taken(said) {
             k += 1;
         } else {
-            return answer::stopped(said);
+            return replay_answer::stopped(said);
         }
     }
-    let last = row::find(slots, Sought::Node(answer::last_of(t)));
-    answer::end(t, last, slots.len(), records)
+    let last = replay_row::find(slots, Sought::Node(replay_answer::last_of(t)));
+    replay_answer::end(t, last, slots.len(), records)
 }

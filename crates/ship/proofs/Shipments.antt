@@ -7,14 +7,14 @@ use lib.ListN.{length, take, replicate}
 use Rattle.sheet.specs.declared.Reason.{Reason}
 use Rattle.sheet.specs.declared.RecordNo.{RecordNo}
 use Rattle.sheet.specs.Editions.{narrow}
-use Rattle.replaying.specs.Slots.{empty}
-use Rattle.replaying.specs.Replay as Replay
-use Rattle.answer.specs.declared.ReplayAnswer.{ReplayAnswer}
-use Rattle.answer.specs.Answers as ReplaySaid
-use Rattle.pressing.specs.Press as Press
-use Rattle.pressing.proofs.Nodes.{proper-falling}
-use Rattle.pressing.proofs.Drops.{length-withDrops-most}
-use Rattle.pressing.proofs.Accepts.{accepted-says}
+use Rattle.replay_spec.specs.Slots.{empty}
+use Rattle.replay_spec.specs.Replay as Replay
+use Rattle.replay_answer.specs.declared.ReplayAnswer.{ReplayAnswer}
+use Rattle.replay_answer.specs.Answers as ReplaySaid
+use Rattle.press_spec.specs.Press as Press
+use Rattle.press_spec.proofs.Nodes.{proper-falling}
+use Rattle.press_spec.proofs.Drops.{length-withDrops-most}
+use Rattle.press_spec.proofs.Accepts.{accepted-says}
 use Rattle.press.specs.declared.Pressed.{Pressed}
 use Rattle.press.specs.declared.PressAnswer.{PressAnswer}
 use Rattle.press.specs.declared.PressAnswer.the-variants as A

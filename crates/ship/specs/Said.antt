@@ -1,6 +1,6 @@
 -- What the answer of the press and the replay together says.
 use Rattle.sheet.specs.Reasons.{numberOf}
-use Rattle.answer.specs.Answers as ReplaySaid
+use Rattle.replay_answer.specs.Answers as ReplaySaid
 use Rattle.press.specs.Said as PressSaid
 use Rattle.demands.specs.Shipping.{Shipped, unpressed, tried}
 use Rattle.ship.specs.declared.Shipment.{Shipment}

@@ -1,12 +1,12 @@
 // The press and the replay tied together.
 ghost use mathlib.Core.Path.{_≡_};
 ghost use Rattle.sheet.specs.Editions.{narrow};
-ghost use Rattle.pressing.specs.Press.{press};
+ghost use Rattle.press_spec.specs.Press.{press};
 ghost use Rattle.demands.specs.Shipping.{ship};
 ghost use Rattle.ship.specs.Said.{saidOfShipment};
-use answer::ReplayAnswer;
 use press::PressAnswer;
 use press::Pressed;
+use replay_answer::ReplayAnswer;
 use sheet::Reason;
 use sheet::RecordNo;
 

@@ -1,7 +1,7 @@
 // "A small program reads `rules.bin` and `sheet.bin`, presses, writes `pressed.bin` if accepted (else leaves that file alone), and prints one
 // line." All in the folder that it runs in.
-use files::Length;
 use press::PressAnswer;
+use program_files::Length;
 use stdio::text;
 
 mod say;
@@ -10,12 +10,12 @@ mod say;
 fn main() {
     let mut rules = [0u8; 16384];
     let mut sheet = [0u8; 12288];
-    let rules_read = files::read_file(b"rules.bin", &mut rules);
+    let rules_read = program_files::read_file(b"rules.bin", &mut rules);
     let Length::Whole(rules_length) = rules_read else {
         text::print(b"unreadable rules.bin\n");
         return;
     };
-    let sheet_read = files::read_file(b"sheet.bin", &mut sheet);
+    let sheet_read = program_files::read_file(b"sheet.bin", &mut sheet);
     let Length::Whole(sheet_length) = sheet_read else {
         text::print(b"unreadable sheet.bin\n");
         return;
@@ -27,7 +27,7 @@ fn main() {
 fn answer(sheet: &[u8; 12288], sheet_length: usize, rules: &[u8; 16384], rules_length: usize) {
     let mut out = [0u8; 24552];
     let mut marks = [0u8; 1024];
-    let answer = whole::press_whole(
+    let answer = program_whole::press_whole(
         sheet,
         sheet_length,
         rules,
@@ -37,8 +37,8 @@ fn answer(sheet: &[u8; 12288], sheet_length: usize, rules: &[u8; 16384], rules_l
     );
     match answer {
         PressAnswer::Accepted(pressed) => {
-            let end = whole::record_bytes(pressed);
-            if files::replace(b"pressed.bin", b"pressed.bin.part", &out[..end]) {
+            let end = program_whole::record_bytes(pressed);
+            if program_files::replace(b"pressed.bin", b"pressed.bin.part", &out[..end]) {
                 say::accepted(pressed);
             } else {
                 text::print(b"unwritable pressed.bin\n");

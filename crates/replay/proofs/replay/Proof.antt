@@ -50,32 +50,32 @@ use Rattle.sheet.specs.Checks.{checkLengths}
 use Rattle.sheet.specs.Editions.{narrow, replayRecords}
 use Rattle.sheet.proofs.Verdict as J
 use Rattle.sheet.proofs.Verdict.Laws as J′
-use Rattle.checks.proofs.check_lengths as lengths′
-use Rattle.checks.proofs.check_lengths.Symbol as lengths-def
-use Rattle.checks.proofs.check_lengths.Symbol.{name as #lengths}
-use Rattle.checks.proofs.check_lengths.Met as lengths-thm
-use Rattle.replaying.specs.Step.{state, tally, passes}
-use Rattle.replaying.specs.Replay.{refused, outcome, replay, run as runs-to}
-use Rattle.slots.specs.declared.Slot.{Slot}
-use Rattle.slots.specs.Said.{rowOf}
-use Rattle.slots.proofs.Slot as T
-use Rattle.answer.specs.declared.ReplayAnswer.{ReplayAnswer}
-use Rattle.answer.specs.Answers.{said}
-use Rattle.answer.proofs.ReplayAnswer as B
-use Rattle.answer.proofs.ReplayAnswer.Laws as B′
-use Rattle.step.proofs.Values.{answer-val, verdict-val}
-use Rattle.row.proofs.Prims.{Clear, call-clear}
+use Rattle.sheet_checks.proofs.check_lengths as lengths′
+use Rattle.sheet_checks.proofs.check_lengths.Symbol as lengths-def
+use Rattle.sheet_checks.proofs.check_lengths.Symbol.{name as #lengths}
+use Rattle.sheet_checks.proofs.check_lengths.Met as lengths-thm
+use Rattle.replay_spec.specs.Step.{state, tally, passes}
+use Rattle.replay_spec.specs.Replay.{refused, outcome, replay, run as runs-to}
+use Rattle.replay_slots.specs.declared.Slot.{Slot}
+use Rattle.replay_slots.specs.Said.{rowOf}
+use Rattle.replay_slots.proofs.Slot as T
+use Rattle.replay_answer.specs.declared.ReplayAnswer.{ReplayAnswer}
+use Rattle.replay_answer.specs.Answers.{said}
+use Rattle.replay_answer.proofs.ReplayAnswer as B
+use Rattle.replay_answer.proofs.ReplayAnswer.Laws as B′
+use Rattle.replay_step.proofs.Values.{answer-val, verdict-val}
+use Rattle.replay_row.proofs.Prims.{Clear, call-clear}
 use Rattle.replay.proofs.Answers.{Passes, Refuses, call-passes, call-refused}
 use Rattle.replay.proofs.Whole.{cleared-length, fine-is, comes-fine, comes-refused}
-use Rattle.answer.proofs.passes.Symbol as passes-def
-use Rattle.answer.proofs.passes.Symbol.{name as #passes}
-use Rattle.answer.proofs.passes.Met as passes-thm
-use Rattle.answer.proofs.refused.Symbol as refused-def
-use Rattle.answer.proofs.refused.Symbol.{name as #refused}
-use Rattle.answer.proofs.refused.Met as refused-thm
-use Rattle.row.proofs.clear.Symbol as clear-def
-use Rattle.row.proofs.clear.Symbol.{name as #clear}
-use Rattle.row.proofs.clear.Met as clear-thm
+use Rattle.replay_answer.proofs.passes.Symbol as passes-def
+use Rattle.replay_answer.proofs.passes.Symbol.{name as #passes}
+use Rattle.replay_answer.proofs.passes.Met as passes-thm
+use Rattle.replay_answer.proofs.refused.Symbol as refused-def
+use Rattle.replay_answer.proofs.refused.Symbol.{name as #refused}
+use Rattle.replay_answer.proofs.refused.Met as refused-thm
+use Rattle.replay_row.proofs.clear.Symbol as clear-def
+use Rattle.replay_row.proofs.clear.Symbol.{name as #clear}
+use Rattle.replay_row.proofs.clear.Met as clear-thm
 use Rattle.replay.proofs.run.run as run′
 use Rattle.replay.proofs.run.run.Symbol as run-def
 use Rattle.replay.proofs.run.run.Symbol.{name as #run}
@@ -206,9 +206,9 @@ replay-spec 𝓤 H 𝓜 𝓖 𝓡 =
     (tables 𝓤 H 𝓜 𝓡 code.env .C) (tables 𝓤 H 𝓜 𝓡 code.env .Λ) #key code.function (code.unfolded 𝓤 H 𝓜 𝓡)
     (meets 𝓤 H (𝓖 .A) (givenOf 𝓤 H 𝓜 𝓖) (𝓜 .mem) (𝓡 .run) (tablesOf 𝓤 H 𝓜 (tables 𝓤 H 𝓜 𝓡 code.env))
     (record {
-      lengths = cited 𝓤 H (Lengths 𝓤 H (𝓖 .A) (𝓜 .mem) (𝓡 .run)) 𝓜 𝓡 code.env #lengths lengths-def.routine code.calls-checks·check-lengths (lengths-thm.met 𝓤 H 𝓜 𝓖 𝓡);
-      passes = cited 𝓤 H (Passes 𝓤 H (𝓖 .A) (𝓜 .mem) (𝓡 .run)) 𝓜 𝓡 code.env #passes passes-def.routine code.calls-answer·passes (passes-thm.met 𝓤 H 𝓜 𝓖 𝓡);
-      clear = cited 𝓤 H (Clear 𝓤 H (𝓖 .A) (𝓜 .mem) (𝓡 .run)) 𝓜 𝓡 code.env #clear clear-def.routine code.calls-row·clear (clear-thm.met 𝓤 H 𝓜 𝓖 𝓡);
+      lengths = cited 𝓤 H (Lengths 𝓤 H (𝓖 .A) (𝓜 .mem) (𝓡 .run)) 𝓜 𝓡 code.env #lengths lengths-def.routine code.calls-sheet-checks·check-lengths (lengths-thm.met 𝓤 H 𝓜 𝓖 𝓡);
+      passes = cited 𝓤 H (Passes 𝓤 H (𝓖 .A) (𝓜 .mem) (𝓡 .run)) 𝓜 𝓡 code.env #passes passes-def.routine code.calls-replay-answer·passes (passes-thm.met 𝓤 H 𝓜 𝓖 𝓡);
+      clear = cited 𝓤 H (Clear 𝓤 H (𝓖 .A) (𝓜 .mem) (𝓡 .run)) 𝓜 𝓡 code.env #clear clear-def.routine code.calls-replay-row·clear (clear-thm.met 𝓤 H 𝓜 𝓖 𝓡);
       runs-it = cited 𝓤 H (Run 𝓤 H (𝓖 .A) (𝓜 .mem) (𝓡 .run)) 𝓜 𝓡 code.env #run run-def.routine code.calls-replay·run·run (run-thm.met 𝓤 H 𝓜 𝓖 𝓡);
-      refused = cited 𝓤 H (Refuses 𝓤 H (𝓖 .A) (𝓜 .mem) (𝓡 .run)) 𝓜 𝓡 code.env #refused refused-def.routine code.calls-answer·refused (refused-thm.met 𝓤 H 𝓜 𝓖 𝓡);
+      refused = cited 𝓤 H (Refuses 𝓤 H (𝓖 .A) (𝓜 .mem) (𝓡 .run)) 𝓜 𝓡 code.env #refused refused-def.routine code.calls-replay-answer·refused (refused-thm.met 𝓤 H 𝓜 𝓖 𝓡);
     }))

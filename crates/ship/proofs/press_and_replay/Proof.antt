@@ -2,7 +2,7 @@ use mathlib.Core.Path.{sym, ap}
 use Prim.Native.Nat.{ℕ, _*_}
 use native.Mathlib.Omega.{arith}
 use lib.Seq.{length-take-le}
-use Rattle.pressing.specs.Press.{Outcome}
+use Rattle.press_spec.specs.Press.{Outcome}
 use Rattle.ship.proofs.Shipments.{ships-refused, ships-tried, written-fits}
 use borrow.Author.Needs.{needs}
 use Rattle.ship.proofs.press_and_replay.Statement.{statement}

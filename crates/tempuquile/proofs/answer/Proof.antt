@@ -1,7 +1,7 @@
 use mathlib.Core.Path.{sym}
 use native.Mathlib.Omega.{arith}
 use lib.Seq.{length-take-le}
-use Rattle.whole.proofs.Starts.{fits-bytes}
+use Rattle.program_whole.proofs.Starts.{fits-bytes}
 use borrow.Author.Needs.{needs}
 use Rattle.tempuquile.proofs.answer.Statement.{statement}
 use Rattle.tempuquile.proofs.answer.Tie as tie

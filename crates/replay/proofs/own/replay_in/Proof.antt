@@ -40,30 +40,30 @@ use denote.Triple.Spec.{Meets, tripleOf}
 use denote.Triple.Table.{entered, cited}
 use denote.Triple.Walked.{says, Stays, stay-dropped, walkOf, goes-dropped, ends-at, walked, walk-meets}
 use denote.Exit.{yes}
-use Rattle.replaying.proofs.Plenty.{replay-at-most}
+use Rattle.replay_spec.proofs.Plenty.{replay-at-most}
 use Rattle.sheet.specs.Editions.{narrow}
-use Rattle.replaying.specs.Slots.{empty, Slot as RowSlot}
-use Rattle.replaying.specs.Replay.{Outcome, outcome, replay as replayed}
-use Rattle.slots.specs.Said.{slotOf, rowOf}
-use Rattle.slots.specs.declared.Slot.{Slot}
-use Rattle.slots.proofs.Slot as T
-use Rattle.slots.proofs.Slot.Laws as T′
-use Rattle.slots.proofs.empty as empty′
-use Rattle.slots.proofs.empty.Symbol as empty-def
-use Rattle.slots.proofs.empty.Symbol.{name as #empty}
-use Rattle.slots.proofs.empty.Met as empty-thm
+use Rattle.replay_spec.specs.Slots.{empty, Slot as RowSlot}
+use Rattle.replay_spec.specs.Replay.{Outcome, outcome, replay as replayed}
+use Rattle.replay_slots.specs.Said.{slotOf, rowOf}
+use Rattle.replay_slots.specs.declared.Slot.{Slot}
+use Rattle.replay_slots.proofs.Slot as T
+use Rattle.replay_slots.proofs.Slot.Laws as T′
+use Rattle.replay_slots.proofs.empty as empty′
+use Rattle.replay_slots.proofs.empty.Symbol as empty-def
+use Rattle.replay_slots.proofs.empty.Symbol.{name as #empty}
+use Rattle.replay_slots.proofs.empty.Met as empty-thm
 use Rattle.lending.proofs.Arrays.{repeat-is, array-part, part-array}
 use Rattle.lending.proofs.Calls.{call-plain}
 use Rattle.lending.proofs.Leaving.{lays, leaves}
 use Rattle.lending.proofs.Lends.{passed, lent-for, call-with-row}
 use Rattle.lending.proofs.Parts.{lent-of, Lent, lent-ref, lent-val}
 use Rattle.lending.proofs.Locals.{tyAt}
-use Rattle.answer.specs.Answers.{said}
-use Rattle.answer.specs.declared.ReplayAnswer.{ReplayAnswer}
-use Rattle.row.proofs.Prims.{sv, Empty}
+use Rattle.replay_answer.specs.Answers.{said}
+use Rattle.replay_answer.specs.declared.ReplayAnswer.{ReplayAnswer}
+use Rattle.replay_row.proofs.Prims.{sv, Empty}
 use Rattle.replay.proofs.Owned.{row-replicate, n≤, roomy}
-use Rattle.answer.proofs.ReplayAnswer as R
-use Rattle.answer.proofs.ReplayAnswer.Laws as R′
+use Rattle.replay_answer.proofs.ReplayAnswer as R
+use Rattle.replay_answer.proofs.ReplayAnswer.Laws as R′
 use Rattle.replay.proofs.own.enough as enough′
 use Rattle.replay.proofs.own.enough.Symbol as enough-def
 use Rattle.replay.proofs.own.enough.Symbol.{name as #enough}
@@ -163,6 +163,6 @@ replay-in-spec 𝓤 H 𝓜 𝓖 𝓡 =
     entered 𝓤 H (tripleOf 𝓤 H (𝓖 .A) f.signature (f.spec 𝓤 H (𝓖 .A) (𝓜 .mem) (𝓡 .run)))
     (tables 𝓤 H 𝓜 𝓡 code.env .C) (tables 𝓤 H 𝓜 𝓡 code.env .Λ) #key code.function (code.unfolded 𝓤 H 𝓜 𝓡)
     (meets 𝓤 H (𝓖 .A) (givenOf 𝓤 H 𝓜 𝓖) (𝓜 .mem) (𝓡 .run) (tablesOf 𝓤 H 𝓜 (tables 𝓤 H 𝓜 𝓡 code.env))
-    (cited 𝓤 H (Empty 𝓤 H (𝓖 .A) (𝓜 .mem) (𝓡 .run)) 𝓜 𝓡 code.env #empty empty-def.routine code.calls-slots·empty (empty-thm.met 𝓤 H 𝓜 𝓖 𝓡))
+    (cited 𝓤 H (Empty 𝓤 H (𝓖 .A) (𝓜 .mem) (𝓡 .run)) 𝓜 𝓡 code.env #empty empty-def.routine code.calls-replay-slots·empty (empty-thm.met 𝓤 H 𝓜 𝓖 𝓡))
     (cited 𝓤 H (Enough 𝓤 H (𝓖 .A) (𝓜 .mem) (𝓡 .run)) 𝓜 𝓡 code.env #enough enough-def.routine code.calls-replay·own·enough (enough-thm.met 𝓤 H 𝓜 𝓖 𝓡))
     (cited 𝓤 H (Replay 𝓤 H (𝓖 .A) (𝓜 .mem) (𝓡 .run)) 𝓜 𝓡 code.env #replay replay-def.routine code.calls-replay·replay (replay-thm.met 𝓤 H 𝓜 𝓖 𝓡)))

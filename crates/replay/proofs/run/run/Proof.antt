@@ -57,56 +57,56 @@ use Rattle.sheet.proofs.NodeNo as N
 use Rattle.sheet.proofs.NodeNo.Laws as N′
 use Rattle.sheet.proofs.RecordNo as R
 use Rattle.sheet.proofs.RecordNo.Laws as R′
-use Rattle.replaying.specs.Slots.{holding}
-use Rattle.replaying.specs.Step.{State, state, tally}
-use Rattle.replaying.specs.Replay.{run as runs-to}
-use Rattle.slots.specs.declared.Slot.{Slot}
-use Rattle.slots.specs.declared.Tally.{Tally}
-use Rattle.slots.specs.declared.StepAnswer.{StepAnswer}
-use Rattle.slots.specs.declared.Sought.the-variants.{Node}
-use Rattle.slots.specs.Search.{search}
-use Rattle.slots.specs.Said.{saidOfStep, tallyOf, rowOf, soughtIn}
-use Rattle.slots.proofs.Rows.{row-length}
-use Rattle.slots.proofs.Slot as T
-use Rattle.slots.proofs.Tally as Y
-use Rattle.slots.proofs.Tally.Laws as Y′
-use Rattle.slots.proofs.Sought as K
-use Rattle.slots.proofs.Sought.Laws as K′
-use Rattle.slots.proofs.Found as F
-use Rattle.slots.proofs.Found.Laws as F′
-use Rattle.slots.proofs.StepAnswer as S
-use Rattle.slots.proofs.StepAnswer.Laws as S′
-use Rattle.answer.specs.declared.ReplayAnswer.{ReplayAnswer}
-use Rattle.answer.specs.Answers.{said}
-use Rattle.answer.proofs.ReplayAnswer as B
-use Rattle.answer.proofs.ReplayAnswer.Laws as B′
-use Rattle.step.proofs.Values.{tally-val, step-val, answer-val, node-is}
-use Rattle.row.proofs.Prims.{Find, call-find}
+use Rattle.replay_spec.specs.Slots.{holding}
+use Rattle.replay_spec.specs.Step.{State, state, tally}
+use Rattle.replay_spec.specs.Replay.{run as runs-to}
+use Rattle.replay_slots.specs.declared.Slot.{Slot}
+use Rattle.replay_slots.specs.declared.Tally.{Tally}
+use Rattle.replay_slots.specs.declared.StepAnswer.{StepAnswer}
+use Rattle.replay_slots.specs.declared.Sought.the-variants.{Node}
+use Rattle.replay_slots.specs.Search.{search}
+use Rattle.replay_slots.specs.Said.{saidOfStep, tallyOf, rowOf, soughtIn}
+use Rattle.replay_slots.proofs.Rows.{row-length}
+use Rattle.replay_slots.proofs.Slot as T
+use Rattle.replay_slots.proofs.Tally as Y
+use Rattle.replay_slots.proofs.Tally.Laws as Y′
+use Rattle.replay_slots.proofs.Sought as K
+use Rattle.replay_slots.proofs.Sought.Laws as K′
+use Rattle.replay_slots.proofs.Found as F
+use Rattle.replay_slots.proofs.Found.Laws as F′
+use Rattle.replay_slots.proofs.StepAnswer as S
+use Rattle.replay_slots.proofs.StepAnswer.Laws as S′
+use Rattle.replay_answer.specs.declared.ReplayAnswer.{ReplayAnswer}
+use Rattle.replay_answer.specs.Answers.{said}
+use Rattle.replay_answer.proofs.ReplayAnswer as B
+use Rattle.replay_answer.proofs.ReplayAnswer.Laws as B′
+use Rattle.replay_step.proofs.Values.{tally-val, step-val, answer-val, node-is}
+use Rattle.replay_row.proofs.Prims.{Find, call-find}
 use Rattle.replay.proofs.Answers.{Nothing, Is-taken, Stopped, Last-of, End, call-nothing, call-taken, call-stopped, call-last, call-end}
-use Rattle.step.proofs.Stepping.{number, number-is, call-step-at, Comes, Step}
+use Rattle.replay_step.proofs.Stepping.{number, number-is, call-step-at, Comes, Step}
 use Rattle.sheet.proofs.RecordBytes.{lent}
-use Rattle.step.proofs.Going.{number-fits, Goes, goes-none, goes-all, goes-on, goes-no-more, record-inside, count-fits, at-fits, end-fits, part-fits, at-end}
-use Rattle.answer.proofs.nothing.Symbol as nothing-def
-use Rattle.answer.proofs.nothing.Symbol.{name as #nothing}
-use Rattle.answer.proofs.nothing.Met as nothing-thm
-use Rattle.answer.proofs.is_taken.Symbol as taken-def
-use Rattle.answer.proofs.is_taken.Symbol.{name as #taken}
-use Rattle.answer.proofs.is_taken.Met as taken-thm
-use Rattle.answer.proofs.stopped.Symbol as stopped-def
-use Rattle.answer.proofs.stopped.Symbol.{name as #stopped}
-use Rattle.answer.proofs.stopped.Met as stopped-thm
-use Rattle.answer.proofs.last_of.Symbol as last-def
-use Rattle.answer.proofs.last_of.Symbol.{name as #last}
-use Rattle.answer.proofs.last_of.Met as last-thm
-use Rattle.answer.proofs.end.Symbol as end-def
-use Rattle.answer.proofs.end.Symbol.{name as #end}
-use Rattle.answer.proofs.end.Met as end-thm
-use Rattle.step.proofs.step.Symbol as step-def
-use Rattle.step.proofs.step.Symbol.{name as #step}
-use Rattle.step.proofs.step.Met as step-thm
-use Rattle.row.proofs.find.Symbol as find-def
-use Rattle.row.proofs.find.Symbol.{name as #find}
-use Rattle.row.proofs.find.Met as find-thm
+use Rattle.replay_step.proofs.Going.{number-fits, Goes, goes-none, goes-all, goes-on, goes-no-more, record-inside, count-fits, at-fits, end-fits, part-fits, at-end}
+use Rattle.replay_answer.proofs.nothing.Symbol as nothing-def
+use Rattle.replay_answer.proofs.nothing.Symbol.{name as #nothing}
+use Rattle.replay_answer.proofs.nothing.Met as nothing-thm
+use Rattle.replay_answer.proofs.is_taken.Symbol as taken-def
+use Rattle.replay_answer.proofs.is_taken.Symbol.{name as #taken}
+use Rattle.replay_answer.proofs.is_taken.Met as taken-thm
+use Rattle.replay_answer.proofs.stopped.Symbol as stopped-def
+use Rattle.replay_answer.proofs.stopped.Symbol.{name as #stopped}
+use Rattle.replay_answer.proofs.stopped.Met as stopped-thm
+use Rattle.replay_answer.proofs.last_of.Symbol as last-def
+use Rattle.replay_answer.proofs.last_of.Symbol.{name as #last}
+use Rattle.replay_answer.proofs.last_of.Met as last-thm
+use Rattle.replay_answer.proofs.end.Symbol as end-def
+use Rattle.replay_answer.proofs.end.Symbol.{name as #end}
+use Rattle.replay_answer.proofs.end.Met as end-thm
+use Rattle.replay_step.proofs.step.Symbol as step-def
+use Rattle.replay_step.proofs.step.Symbol.{name as #step}
+use Rattle.replay_step.proofs.step.Met as step-thm
+use Rattle.replay_row.proofs.find.Symbol as find-def
+use Rattle.replay_row.proofs.find.Symbol.{name as #find}
+use Rattle.replay_row.proofs.find.Met as find-thm
 use Rattle.replay.proofs.run.run.Key.{name as #key}
 use Rattle.replay.proofs.run.run as f
 use Rattle.replay.proofs.run.run.Statement as stated
@@ -320,11 +320,11 @@ run-spec 𝓤 H 𝓜 𝓖 𝓡 =
     (tables 𝓤 H 𝓜 𝓡 code.env .C) (tables 𝓤 H 𝓜 𝓡 code.env .Λ) #key code.function (code.unfolded 𝓤 H 𝓜 𝓡)
     (meets 𝓤 H (𝓖 .A) (givenOf 𝓤 H 𝓜 𝓖) (𝓜 .mem) (𝓡 .run) (tablesOf 𝓤 H 𝓜 (tables 𝓤 H 𝓜 𝓡 code.env))
     (record {
-      nothing = cited 𝓤 H (Nothing 𝓤 H (𝓖 .A) (𝓜 .mem) (𝓡 .run)) 𝓜 𝓡 code.env #nothing nothing-def.routine code.calls-answer·nothing (nothing-thm.met 𝓤 H 𝓜 𝓖 𝓡);
-      step = cited 𝓤 H (Step 𝓤 H (𝓖 .A) (𝓜 .mem) (𝓡 .run)) 𝓜 𝓡 code.env #step step-def.routine code.calls-step·step (step-thm.met 𝓤 H 𝓜 𝓖 𝓡);
-      taken = cited 𝓤 H (Is-taken 𝓤 H (𝓖 .A) (𝓜 .mem) (𝓡 .run)) 𝓜 𝓡 code.env #taken taken-def.routine code.calls-answer·is-taken (taken-thm.met 𝓤 H 𝓜 𝓖 𝓡);
-      stopped = cited 𝓤 H (Stopped 𝓤 H (𝓖 .A) (𝓜 .mem) (𝓡 .run)) 𝓜 𝓡 code.env #stopped stopped-def.routine code.calls-answer·stopped (stopped-thm.met 𝓤 H 𝓜 𝓖 𝓡);
-      last = cited 𝓤 H (Last-of 𝓤 H (𝓖 .A) (𝓜 .mem) (𝓡 .run)) 𝓜 𝓡 code.env #last last-def.routine code.calls-answer·last-of (last-thm.met 𝓤 H 𝓜 𝓖 𝓡);
-      find = cited 𝓤 H (Find 𝓤 H (𝓖 .A) (𝓜 .mem) (𝓡 .run)) 𝓜 𝓡 code.env #find find-def.routine code.calls-row·find (find-thm.met 𝓤 H 𝓜 𝓖 𝓡);
-      end = cited 𝓤 H (End 𝓤 H (𝓖 .A) (𝓜 .mem) (𝓡 .run)) 𝓜 𝓡 code.env #end end-def.routine code.calls-answer·end (end-thm.met 𝓤 H 𝓜 𝓖 𝓡);
+      nothing = cited 𝓤 H (Nothing 𝓤 H (𝓖 .A) (𝓜 .mem) (𝓡 .run)) 𝓜 𝓡 code.env #nothing nothing-def.routine code.calls-replay-answer·nothing (nothing-thm.met 𝓤 H 𝓜 𝓖 𝓡);
+      step = cited 𝓤 H (Step 𝓤 H (𝓖 .A) (𝓜 .mem) (𝓡 .run)) 𝓜 𝓡 code.env #step step-def.routine code.calls-replay-step·step (step-thm.met 𝓤 H 𝓜 𝓖 𝓡);
+      taken = cited 𝓤 H (Is-taken 𝓤 H (𝓖 .A) (𝓜 .mem) (𝓡 .run)) 𝓜 𝓡 code.env #taken taken-def.routine code.calls-replay-answer·is-taken (taken-thm.met 𝓤 H 𝓜 𝓖 𝓡);
+      stopped = cited 𝓤 H (Stopped 𝓤 H (𝓖 .A) (𝓜 .mem) (𝓡 .run)) 𝓜 𝓡 code.env #stopped stopped-def.routine code.calls-replay-answer·stopped (stopped-thm.met 𝓤 H 𝓜 𝓖 𝓡);
+      last = cited 𝓤 H (Last-of 𝓤 H (𝓖 .A) (𝓜 .mem) (𝓡 .run)) 𝓜 𝓡 code.env #last last-def.routine code.calls-replay-answer·last-of (last-thm.met 𝓤 H 𝓜 𝓖 𝓡);
+      find = cited 𝓤 H (Find 𝓤 H (𝓖 .A) (𝓜 .mem) (𝓡 .run)) 𝓜 𝓡 code.env #find find-def.routine code.calls-replay-row·find (find-thm.met 𝓤 H 𝓜 𝓖 𝓡);
+      end = cited 𝓤 H (End 𝓤 H (𝓖 .A) (𝓜 .mem) (𝓡 .run)) 𝓜 𝓡 code.env #end end-def.routine code.calls-replay-answer·end (end-thm.met 𝓤 H 𝓜 𝓖 𝓡);
     }))

@@ -1,0 +1,29 @@
+-- What the C interface answers: 0 or the refusal's number, and a row of words, of which as many are filled as fit.
+use Prim.Native.Nat.{ℕ, suc}
+use mathlib.Core.List.{List, [], _∷_}
+use lib.ListN.{set}
+use Rattle.press_spec.specs.Press.{Answer, refused, accepted}
+use Rattle.replay_spec.specs.Replay as R
+
+-- words put one after another from position i; past the end nothing is put
+unfoldable pub fill : ℕ → List ℕ → List ℕ → List ℕ
+fill i [] row = row
+fill i (w ∷ ws) row = fill (suc i) ws (set row i w)
+
+unfoldable pub pressCode : Answer → ℕ
+pressCode (refused why k) = why
+pressCode (accepted c records nodes steps peak marked) = 0
+
+-- record, positive, negative, records, nodes, steps, peak, marked: on a refusal all but the first are 0, on acceptance the first is
+unfoldable pub pressWords : Answer → List ℕ
+pressWords (refused why k) = k ∷ 0 ∷ 0 ∷ 0 ∷ 0 ∷ 0 ∷ 0 ∷ 0 ∷ []
+pressWords (accepted c records nodes steps peak marked) = 0 ∷ c .positive ∷ c .negative ∷ records ∷ nodes ∷ steps ∷ peak ∷ marked ∷ []
+
+unfoldable pub replayCode : R.Answer → ℕ
+replayCode (R.refused why k) = why
+replayCode (R.accepted c nodes steps peak) = 0
+
+-- record, positive, negative, nodes, steps, peak: likewise
+unfoldable pub replayWords : R.Answer → List ℕ
+replayWords (R.refused why k) = k ∷ 0 ∷ 0 ∷ 0 ∷ 0 ∷ 0 ∷ []
+replayWords (R.accepted c nodes steps peak) = 0 ∷ c .positive ∷ c .negative ∷ nodes ∷ steps ∷ peak ∷ []

@@ -1,0 +1,83 @@
+// What is said of an answer: 0 or the refusal's number, and a lent row of words.
+ghost use mathlib.Core.Path.{_≡_};
+ghost use mathlib.Core.List.{[], _∷_};
+ghost use Prim.Native.Nat.{_<_};
+ghost use lib.ListN.{set};
+ghost use Rattle.press.specs.Said.{said};
+ghost use Rattle.replay_answer.specs.Answers.{said as saidOfReplay};
+ghost use Rattle.c_report.specs.Report.{fill, pressCode, pressWords, replayCode, replayWords};
+use press::PressAnswer;
+use replay_answer::ReplayAnswer;
+
+// A word of the report, where there is room for it.
+fn put(report: &mut [u64], i: usize, word: u64)
+    ensures { λ _. ⌜ now (report .exit) ≡ set (now (report .entry)) i word ⌝ }
+{
+    if i < report.len() {
+        report[i] = word;
+    }
+}
+
+// Four words, one after another.
+fn put_four(report: &mut [u64], i: usize, a: u64, b: u64, c: u64, d: u64)
+    requires { ⌜ i < 5 ⌝ }
+    ensures { λ _. ⌜ now (report .exit) ≡ fill i (a ∷ b ∷ c ∷ d ∷ []) (now (report .entry)) ⌝ }
+{
+    put(report, i, a);
+    put(report, i + 1, b);
+    put(report, i + 2, c);
+    put(report, i + 3, d);
+}
+
+// What is said of a press.
+pub fn tell_press(answer: PressAnswer, report: &mut [u64]) -> u32
+    ensures code { λ r. ⌜ r ≡ pressCode (said answer) ⌝ }
+    ensures words { λ r. ⌜ now (report .exit) ≡ fill 0 (pressWords (said answer)) (now (report .entry)) ⌝ }
+{
+    match answer {
+        PressAnswer::Accepted(done) => {
+            let conclusion = done.conclusion;
+            let positive = conclusion.positive;
+            let negative = conclusion.negative;
+            put_four(report, 0, 0, positive.0, negative.0, done.records as u64);
+            put_four(
+                report,
+                4,
+                done.nodes as u64,
+                done.steps as u64,
+                done.peak as u64,
+                done.marked as u64,
+            );
+            0
+        }
+        PressAnswer::Refused(why, k) => {
+            put_four(report, 0, k.0 as u64, 0, 0, 0);
+            put_four(report, 4, 0, 0, 0, 0);
+            sheet::number_of(why)
+        }
+    }
+}
+
+// What is said of a replay.
+pub fn tell_replay(answer: ReplayAnswer, report: &mut [u64]) -> u32
+    ensures code { λ r. ⌜ r ≡ replayCode (saidOfReplay answer) ⌝ }
+    ensures words { λ r. ⌜ now (report .exit) ≡ fill 0 (replayWords (saidOfReplay answer)) (now (report .entry)) ⌝ }
+{
+    match answer {
+        ReplayAnswer::Accepted(done) => {
+            let conclusion = done.conclusion;
+            let positive = conclusion.positive;
+            let negative = conclusion.negative;
+            put_four(report, 0, 0, positive.0, negative.0, done.nodes as u64);
+            put(report, 4, done.steps as u64);
+            put(report, 5, done.peak as u64);
+            0
+        }
+        ReplayAnswer::Refused(why, k) => {
+            put_four(report, 0, k.0 as u64, 0, 0, 0);
+            put(report, 4, 0);
+            put(report, 5, 0);
+            sheet::number_of(why)
+        }
+    }
+}

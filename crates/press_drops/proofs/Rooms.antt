@@ -1,0 +1,170 @@
+-- Room for the records that are still to come, and what the turn at a node, with its drops, makes of it.
+use mathlib.Core.Path.{_≡_, refl, sym, ap, _∙_}
+use mathlib.Core.Bool.{true, false}
+use mathlib.Core.List.{List, [], _∷_, _++_, append-nil}
+use Prim.Native.Nat.{ℕ, zero, suc, _+_, _*_, _<_, _≤_, min, max}
+use native.Mathlib.Omega.{arith}
+use borrow.Author.Tests.{eq-eqb, ne-eqb}
+use lib.ListN.{length, length-append, drop-of-length-le}
+use lib.ListN.{drop as after}
+use Rattle.base.proofs.Bytes.{length-put}
+use Rattle.sheet.specs.Editions.{narrow}
+use Rattle.sheet.specs.Records.{Node, given, step, Record, node, drop, nodeAt}
+use Rattle.sheet.specs.Fields.{recordBytesOf}
+use Rattle.sheet.specs.Counts.{stepOf}
+use Rattle.sheet.proofs.RecordBytes.{length-recordBytesOf}
+use Rattle.press_spec.specs.Links.{Link, leaf, join, link, links}
+use Rattle.press_spec.specs.Drops.{dropLast, dropsAfter, withDrops}
+use Rattle.press_spec.proofs.Playing.{usedIn}
+use Rattle.press_spec.proofs.Drops.{dropLast-used, dropLast-unused}
+use Rattle.press_emit.specs.Emission.{Emission, emitRecord, emitAll, recordsAt, Roomy}
+use Rattle.press_emit.proofs.Emits.{emitAll-append}
+use Rattle.press_emit.proofs.Emitting.{from-cons}
+
+-- room for one record, as the code asks for it
+pub record One (e : Emission) : Type 0 where
+  pub counts : (e .records < 1023) × (e .held ≤ e .records) × (e .steps ≤ e .records)
+  pub bytes : 24 * e .records + 24 ≤ length (e .out)
+
+pub roomy-one : (r : Record) (rs : List Record) (e : Emission) → Roomy (r ∷ rs) e → One e
+roomy-one r rs e h = record { counts = (omega (arith, h .few), h .held, h .steps); bytes = omega (arith, h .room) }
+
+put-length : (r : Record) (rs : List Record) (e : Emission) → Roomy (r ∷ rs) e → length (emitRecord r e .out) ≡ length (e .out)
+unfolding emitRecord
+put-length (node x) rs e h = length-put (e .out) (24 * e .records) (recordBytesOf narrow (node x)) (omega (arith, h .room, length-recordBytesOf narrow (node x)))
+put-length (drop n) rs e h = length-put (e .out) (24 * e .records) (recordBytesOf narrow (drop n)) (omega (arith, h .room, length-recordBytesOf narrow (drop n)))
+
+stepOf-le : (x : Node) → stepOf x ≤ 1
+unfolding stepOf
+stepOf-le (given line c) = omega arith
+stepOf-le (step p l r c) = omega arith
+
+pub roomy-next : (r : Record) (rs : List Record) (e : Emission) → Roomy (r ∷ rs) e → Roomy rs (emitRecord r e)
+unfolding emitRecord
+roomy-next (node x) rs e h = record {
+  few = omega (arith, h .few);
+  room = omega (arith, h .room, put-length (node x) rs e h);
+  held = omega (arith, h .held);
+  steps = omega (arith, h .steps, stepOf-le x);
+}
+roomy-next (drop n) rs e h = record {
+  few = omega (arith, h .few);
+  room = omega (arith, h .room, put-length (drop n) rs e h);
+  held = omega (arith, h .held);
+  steps = omega (arith, h .steps);
+}
+
+-- room for some records is room for the first of them, and for the others after these
+pub roomy-first : (xs ys : List Record) (e : Emission) → Roomy (xs ++ ys) e → Roomy xs e
+roomy-first xs ys e h = record { few = omega (arith, h .few, length-append xs ys); room = omega (arith, h .room, length-append xs ys); held = h .held; steps = h .steps }
+
+pub roomy-rest : (xs ys : List Record) (e : Emission) → Roomy (xs ++ ys) e → Roomy ys (emitAll xs e)
+unfolding emitAll
+roomy-rest [] ys e h = h
+roomy-rest (x ∷ xs) ys e h = roomy-rest xs ys (emitRecord x e) (roomy-next x (xs ++ ys) e h)
+
+-- ---- the drop of n, or none
+
+module _ (later : List Link) (n : ℕ) (e : Emission) where
+  pub last-kept : true ≡ usedIn later n → e ≡ emitAll (dropLast later n) e
+  unfolding emitAll
+  last-kept h = rw (dropLast-used later n (sym h))
+
+  pub last-dropped : false ≡ usedIn later n → emitRecord (drop n) e ≡ emitAll (dropLast later n) e
+  unfolding emitAll
+  last-dropped h = rw (dropLast-unused later n (sym h))
+
+  pub last-room : false ≡ usedIn later n → Roomy (dropLast later n) e → One e
+  last-room h r = roomy-one (drop n) [] e (rw (dropLast-unused later n (sym h)) at r)
+
+-- ---- a node and its drops
+
+module _ (s : List Node) (k : ℕ) (e : Emission) where
+  pub turn-room : Roomy (recordsAt s k) e → One e
+  unfolding recordsAt
+  turn-room h = roomy-one (node (nodeAt s k)) (dropsAfter (link (nodeAt s k)) (after (k + 1) (links s))) e h
+
+  pub turn-leaf : (line : ℕ) → link (nodeAt s k) ≡ leaf line → emitRecord (node (nodeAt s k)) e ≡ emitAll (recordsAt s k) e
+  unfolding emitAll recordsAt dropsAfter
+  turn-leaf line q = rw q
+
+-- node k is a step of l and r, there is room for it and its drops, and it is emitted
+pub record Stepped (s : List Node) (t : List Link) (k : ℕ) (e e₁ : Emission) (l r : ℕ) : Type 0 where
+  pub pivot : ℕ
+  pub is : link (nodeAt s k) ≡ join pivot l r
+  pub linked : links s ≡ t
+  pub room : Roomy (recordsAt s k) e
+  pub first : e₁ ≡ emitRecord (node (nodeAt s k)) e
+
+module _ {s : List Node} {t : List Link} {k : ℕ} {e e₁ : Emission} {l r : ℕ} (d : Stepped s t k e e₁ l r) where
+  abbrev later : List Link
+  later = after (k + 1) t
+
+  abbrev drops : List Record
+  drops = dropsAfter (link (nodeAt s k)) later
+
+  drops-room : Roomy drops e₁
+  unfolding recordsAt
+  drops-room = rw (d .first) (roomy-next (node (nodeAt s k)) drops e (rw (d .linked) at (d .room)))
+
+  whole : emitAll drops e₁ ≡ emitAll (recordsAt s k) e
+  unfolding recordsAt emitAll
+  whole = rw (d .linked) (ap (emitAll drops) (d .first))
+
+  drops-same : l ≡ r → drops ≡ dropLast later l ++ []
+  unfolding dropsAfter
+  drops-same q = let low : min l r ≡ l = omega arith in rw (d .is, eq-eqb l r q, low)
+
+  pub same-room : l ≡ r → Roomy (dropLast later l) e₁
+  same-room q = roomy-first (dropLast later l) [] e₁ (rw (drops-same q) at drops-room)
+
+  pub turn-same : {e₂ : Emission} → l ≡ r → e₂ ≡ emitAll (dropLast later l) e₁ → e₂ ≡ emitAll (recordsAt s k) e
+  turn-same q z =
+      z ∙ ap (λ (rs : List Record). emitAll rs e₁) (sym (append-nil (dropLast later l)) ∙ sym (drops-same q)) ∙ whole
+
+  module _ {low high : ℕ} (q : l ≡ r → ⊥) (lo : low ≡ min l r) (hi : high ≡ max l r) where
+    drops-two : drops ≡ dropLast later low ++ dropLast later high
+    unfolding dropsAfter
+    drops-two = rw (d .is, ne-eqb l r q, lo, hi)
+
+    pub low-room : Roomy (dropLast later low) e₁
+    low-room = roomy-first (dropLast later low) (dropLast later high) e₁ (rw drops-two at drops-room)
+
+    module _ {e₂ : Emission} (second : e₂ ≡ emitAll (dropLast later low) e₁) where
+      pub high-room : Roomy (dropLast later high) e₂
+      high-room = rw second (roomy-rest (dropLast later low) (dropLast later high) e₁ (rw drops-two at drops-room))
+
+      pub turn-two : {e₃ : Emission} → e₃ ≡ emitAll (dropLast later high) e₂ → e₃ ≡ emitAll (recordsAt s k) e
+      turn-two z =
+          z
+          ∙ ap (emitAll (dropLast later high)) second
+          ∙ sym (emitAll-append (dropLast later low) (dropLast later high) e₁)
+          ∙ ap (λ (rs : List Record). emitAll rs e₁) (sym drops-two)
+          ∙ whole
+
+-- ---- the loop: what is left to emit
+
+links-after : (s : List Node) (k : ℕ) → links (after k s) ≡ after k (links s)
+links-after s zero = refl
+links-after [] (suc k) = refl
+links-after (x ∷ s) (suc k) = links-after s k
+
+module _ (s : List Node) (k : ℕ) where
+  drops-on : k < length s → withDrops (after k s) ≡ recordsAt s k ++ withDrops (after (k + 1) s)
+  unfolding withDrops recordsAt
+  drops-on h = ap withDrops (from-cons s k h) ∙ rw (links-after s (k + 1))
+
+  module _ (h : k < length s) (e : Emission) where
+    pub emit-room : Roomy (withDrops (after k s)) e → Roomy (recordsAt s k) e
+    emit-room r = roomy-first (recordsAt s k) (withDrops (after (k + 1) s)) e (rw (drops-on h) at r)
+
+    pub emit-room-left : Roomy (withDrops (after k s)) e → Roomy (withDrops (after (k + 1) s)) (emitAll (recordsAt s k) e)
+    emit-room-left r = roomy-rest (recordsAt s k) (withDrops (after (k + 1) s)) e (rw (drops-on h) at r)
+
+    pub emit-on : emitAll (withDrops (after (k + 1) s)) (emitAll (recordsAt s k) e) ≡ emitAll (withDrops (after k s)) e
+    emit-on =
+        sym (emitAll-append (recordsAt s k) (withDrops (after (k + 1) s)) e) ∙ ap (λ (rs : List Record). emitAll rs e) (sym (drops-on h))
+
+  pub emit-done : length s ≤ k → (e : Emission) → emitAll (withDrops (after k s)) e ≡ e
+  unfolding withDrops emitAll
+  emit-done h e = ap (λ (l : List Node). emitAll (withDrops l) e) (drop-of-length-le s h)

@@ -1,0 +1,174 @@
+use mathlib.Core.Path.{sym, ap, _∙_}
+use mathlib.Core.List.{List}
+use Rattle.clause.specs.Denote.{literalsOf}
+use Rattle.sheet.specs.declared.Verdict.{Verdict}
+use Rattle.sheet.specs.declared.Verdict.the-variants.{Refused}
+use Rattle.sheet.specs.declared.Reading.the-variants.{Reads}
+use Rattle.sheet.specs.Denote.{recordOf, readingOf, whyUnread}
+use Rattle.sheet.specs.Records.{Node, given, step}
+use Rattle.press_nodes.specs.Tables.{nodesIn}
+use Rattle.press_judge.proofs.Judging.{given-checked, turn-unread, turn-drop, Checked, turn-refused, turn-fine}
+use borrow.Author.Needs.{needs}
+use Rattle.press_judge.proofs.judge_turn.Statement.{statement}
+use Rattle.press_judge.proofs.judge_turn.Tie as tie
+
+-- ---- what is known where the record is read, and where it is checked
+
+module _ (r : tie.After-read-record) where
+  abbrev start : tie.Start
+  start = r .before .before .before .before .before
+
+  abbrev nodes : List Node
+  nodes = nodesIn (start .args .links .now) (start .args .clauses .now)
+
+  abbrev CheckedHere : Node → Verdict → Type 0
+  CheckedHere n v = Checked (start .args .rules .now) (start .args .bytes .now) nodes (start .args .k .0) n v
+
+abbrev read-of : tie.After-reading → tie.After-read-record
+read-of y = y .before .before
+
+given-here : (g : tie.After-check-given) → let m = g .before .before in
+    CheckedHere (read-of (m .before .before .before)) (given (m .«record» .given .0 .0 .0) (literalsOf (m .«record» .given .0 .1 .0))) (g .check-given .result)
+unfolding readingOf recordOf
+given-here g = let m = g .before .before in
+    let y = m .before .before .before in
+    record {
+      read = sym (read-of y .read-record .ensures) ∙ ap readingOf (y .reading .given .1 ∙ ap Reads (m .«record» .given .1));
+      says = g .check-given .ensures ∙ sym (given-checked _ _ _ _);
+    }
+
+step-here : (g : tie.After-check-step) → let m = g .before .before .before .before in
+    let found = m .record2 .given .0 in
+    CheckedHere (read-of (m .before .before .before)) (step (found .0) (found .1 .0 .0) (found .1 .1 .0 .0) (literalsOf (found .1 .1 .1 .0))) (g .check-step .result)
+unfolding readingOf recordOf
+step-here g = let m = g .before .before .before .before in
+    let y = m .before .before .before in
+    record {
+      read = sym (read-of y .read-record .ensures) ∙ ap readingOf (y .reading .given .1 ∙ ap Reads (m .record2 .given .1));
+      says = g .check-step .ensures (start (read-of y) .args .rules .now);
+    }
+
+-- ---- the needs
+
+read-record-requires : tie.Need-read-record-requires
+read-record-requires c κs = search needs
+
+enum-known-reading : tie.Need-enum-known-reading
+enum-known-reading c = search needs
+
+enum-told : tie.Need-enum-told
+enum-told c = search needs
+
+why-unread-requires : tie.Need-why-unread-requires
+why-unread-requires c κs = search needs
+
+returns : tie.Need-returns
+unfolding readingOf whyUnread
+returns c = let r = c .before .before .before in
+    let told = c .before .enum-told .given .1 in
+    turn-unread (start r .args .rules .now) (start r .args .bytes .now) (nodes r) (start r .args .k .0) _ (ap Refused (c .why-unread .ensures ∙ ap (λ x. whyUnread (readingOf x)) told)) (sym (r .read-record .ensures) ∙ ap readingOf told)
+
+enum-known-record : tie.Need-enum-known-record
+enum-known-record c = search needs
+
+check-given-requires : tie.Need-check-given-requires
+check-given-requires c κs = search needs
+
+enum-told-2 : tie.Need-enum-told-2
+enum-told-2 c = search needs
+
+enum-told-3 : tie.Need-enum-told-3
+enum-told-3 c = search needs
+
+returns-2 : tie.Need-returns-2
+returns-2 c = turn-refused (given-here (c .before .before)) (c .enum-told3 .given .1)
+
+put-given-requires : tie.Need-put-given-requires
+put-given-requires c κs = search needs
+
+enum-known-record-2 : tie.Need-enum-known-record-2
+enum-known-record-2 c = search needs
+
+check-step-requires : tie.Need-check-step-requires
+check-step-requires c κs = search needs
+
+enum-told-4 : tie.Need-enum-told-4
+enum-told-4 c = search needs
+
+enum-told-5 : tie.Need-enum-told-5
+enum-told-5 c = search needs
+
+same-length : tie.Need-same-length
+same-length c = search needs
+
+same-length-2 : tie.Need-same-length-2
+same-length-2 c = search needs
+
+returns-3 : tie.Need-returns-3
+returns-3 c = turn-refused (step-here (c .before .before)) (c .enum-told5 .given .1)
+
+put-step-requires : tie.Need-put-step-requires
+put-step-requires c κs = search needs
+
+enum-told-6 : tie.Need-enum-told-6
+enum-told-6 c = search needs
+
+same-length-3 : tie.Need-same-length-3
+same-length-3 c = search needs
+
+same-length-4 : tie.Need-same-length-4
+same-length-4 c = search needs
+
+returns-4 : tie.Need-returns-4
+returns-4 c = let put = c .before .before .before .before in
+    let told = put .before .before .before in
+    turn-fine (given-here (told .before .before)) (told .enum-told2 .given .1) (put .put-given .ensures)
+
+same-length-5 : tie.Need-same-length-5
+same-length-5 c = search needs
+
+same-length-6 : tie.Need-same-length-6
+same-length-6 c = search needs
+
+returns-5 : tie.Need-returns-5
+returns-5 c = let put = c .before .before .before .before in
+    let told = put .before .before .before in
+    turn-fine (step-here (told .before .before)) (told .enum-told4 .given .1) (put .put-step .ensures)
+
+returns-6 : tie.Need-returns-6
+unfolding readingOf recordOf
+returns-6 c = let y = c .before .before .before in
+    let r = read-of y in
+    turn-drop (start r .args .rules .now) (start r .args .bytes .now) (nodes r) (start r .args .k .0) _ (sym (r .read-record .ensures) ∙ ap readingOf (y .reading .given .1 ∙ ap Reads (c .enum-told6 .given .1)))
+
+pub judge-turn-spec : {M : Type 1} → statement M
+judge-turn-spec =
+    tie.close
+    (tie.spec
+    read-record-requires
+    enum-known-reading
+    enum-told
+    why-unread-requires
+    returns
+    enum-known-record
+    check-given-requires
+    enum-told-2
+    enum-told-3
+    returns-2
+    put-given-requires
+    enum-known-record-2
+    check-step-requires
+    enum-told-4
+    enum-told-5
+    same-length
+    same-length-2
+    returns-3
+    put-step-requires
+    enum-told-6
+    same-length-3
+    same-length-4
+    returns-4
+    same-length-5
+    same-length-6
+    returns-5
+    returns-6)

@@ -1,0 +1,4 @@
+pub mod Fated
+pub mod Found
+pub mod Lent
+pub mod Tables

@@ -1,0 +1,69 @@
+-- The press's tables. `links` has a word a node, the first eight bytes of its record as one number; `clauses` has the words of its two sets.
+use Prim.Native.Nat.{ℕ, zero, suc, _+_, _*_, _/_, _%_, _<_, _≤_}
+use mathlib.Core.Path.{_≡_}
+use mathlib.Core.Bool.{cond}
+use mathlib.Core.List.{List, [], _∷_, map}
+use lib.Dec.{eqb}
+use lib.ListN.{length, getD}
+use Rattle.clause.specs.Clauses.{Literals, literals}
+use Rattle.clause.specs.Denote.{width}
+use Rattle.sheet.specs.Editions.{capacity, mostLines}
+use Rattle.sheet.specs.Records.{Node, given, step}
+use Rattle.press_spec.specs.Links.{Link, leaf, join, linkAt}
+use Rattle.press_nodes.specs.declared.link.Link.{Link as CodeLink}
+use Rattle.press_nodes.specs.declared.link.Link.the-variants.{Leaf, Join}
+
+-- ---- links
+
+unfoldable pub linkIn : CodeLink → Link
+linkIn (Leaf line) = leaf (line .0)
+linkIn (Join p l r) = join p (l .0) (r .0)
+
+unfoldable pub linkOf : ℕ → Link
+linkOf word =
+    cond (eqb (word % 256) 2) (join (word / 256 % 256) (word / 65536 % 65536) (word / 4294967296 % 65536)) (leaf (word / 281474976710656))
+
+unfoldable pub linksIn : List ℕ → List Link
+linksIn table = map linkOf table
+
+-- a leaf's line is one that a table can have; a join's pivot is a variable, and its parents are smaller than it
+abbrev pub Sound : ℕ → Link → Type 0
+Sound n (leaf line) = line < mostLines
+Sound n (join p l r) = (p < width) × (l < n) × (r < n)
+
+-- links that are sound, and no more than there is room for
+pub record Links (links : List ℕ) : Type 0 where
+  pub few : length links ≤ capacity
+  pub sound : (n : ℕ) → n < length links → Sound n (linkAt (linksIn links) n)
+
+-- ---- clauses
+
+-- the words of n clauses
+abbrev pub clauseWords : ℕ → ℕ
+clauseWords n = 2 * n
+
+unfoldable pub clausesIn : List ℕ → ℕ → Literals
+clausesIn table n = literals (getD table (2 * n) 0) (getD table (2 * n + 1) 0)
+
+-- the clause of n is c, the others are as they were
+unfoldable pub changed : ℕ → Literals → (ℕ → Literals) → ℕ → Literals
+changed n c clauses m = cond (eqb m n) c (clauses m)
+
+-- f of each entry of a list and the clause at its place
+unfoldable pub beside : {A B : Type 0} → (A → Literals → B) → List A → (ℕ → Literals) → List B
+beside f [] clauses = []
+beside f (x ∷ xs) clauses = f x (clauses 0) ∷ beside f xs (λ n. clauses (suc n))
+
+-- ---- nodes
+
+unfoldable pub nodeOf : Link → Literals → Node
+nodeOf (leaf line) c = given line c
+nodeOf (join p l r) c = step p l r c
+
+unfoldable pub nodesIn : List ℕ → List ℕ → List Node
+nodesIn links clauses = beside nodeOf (linksIn links) (clausesIn clauses)
+
+-- sound links, and a clause for each
+pub record Nodes (links clauses : List ℕ) : Type 0 where
+  pub linked : Links links
+  pub size : length clauses ≡ clauseWords (length links)

@@ -1,0 +1,63 @@
+use mathlib.Core.Path.{sym}
+use lib.Seq.{length-take-le}
+use Rattle.press_order.proofs.Arranging.{front-long, front-again, starts, order-found}
+use borrow.Author.Needs.{needs}
+use Rattle.press_order.proofs.order_from.Statement.{statement}
+use Rattle.press_order.proofs.order_from.Tie as tie
+
+array-borrow-prefix-counts : tie.Need-array-borrow-prefix-counts
+array-borrow-prefix-counts c = search needs
+
+slice-aggregate-uses-from : tie.Need-slice-aggregate-uses-from
+slice-aggregate-uses-from c = let p = c .before .before .before .before .pre in
+    sym (length-take-le _ _ (p .0 .few))
+
+uses-from-requires : tie.Need-uses-from-requires
+uses-from-requires c κs = let p = c .before .before .before .before .pre in
+    (p .0, (length-take-le _ _ (p .0 .few), p .1 .2))
+
+clear-numbers-requires : tie.Need-clear-numbers-requires
+clear-numbers-requires c κs = search needs
+
+array-share-prefix-counts : tie.Need-array-share-prefix-counts
+array-share-prefix-counts c = let u = c .before .before .before .before .before .uses-from in
+    let p = c .before .before .before .before .before .before .before .before .before .before .pre in
+    front-long _ (u .last .1 .1 .0) _ (u .kept .1 .1 .0) (p .0 .few)
+
+slice-aggregate-place : tie.Need-slice-aggregate-place
+slice-aggregate-place c = let u = c .before .before .before .before .before .before .uses-from in
+    let p = c .before .before .before .before .before .before .before .before .before .before .before .pre in
+    sym (length-take-le _ _ (front-long _ (u .last .1 .1 .0) _ (u .kept .1 .1 .0) (p .0 .few)))
+
+place-requires : tie.Need-place-requires
+place-requires c κs = let u = c .before .before .before .before .before .before .before .before .uses-from in
+    let p = c .before .before .before .before .before .before .before .before .before .before .before .before .before .pre in
+    let t = length-take-le _ _ (front-long _ (u .last .1 .1 .0) _ (u .kept .1 .1 .0) (p .0 .few)) in
+    starts _ (c .before .before .before .before .before .before .before .before .before .before .before .before .before .args .numbers .now) _ _ _ (p .0) (p .1 .2) t (p .1 .0) (p .1 .1) (c .before .before .before .before .before .clear-numbers .ensures)
+
+same-length : tie.Need-same-length
+same-length c = search needs
+
+same-length-2 : tie.Need-same-length-2
+same-length-2 c = search needs
+
+returns : tie.Need-returns
+returns c = let r = c .before .before .before .before .place in
+    let u = c .before .before .before .before .before .before .before .before .before .before .before .before .before .uses-from in
+    let p = c .before .before .before .before .before .before .before .before .before .before .before .before .before .before .before .before .before .before .pre in
+    (order-found _ _ _ _ _ _ (u .ensures) (front-again _ (u .last .1 .1 .0) _ (u .kept .1 .1 .0) (p .0 .few)) (r .ensures .0), r .ensures .1)
+
+pub order-from-spec : {M : Type 1} → statement M
+order-from-spec =
+    tie.close
+    (tie.spec
+    array-borrow-prefix-counts
+    slice-aggregate-uses-from
+    uses-from-requires
+    clear-numbers-requires
+    array-share-prefix-counts
+    slice-aggregate-place
+    place-requires
+    same-length
+    same-length-2
+    returns)

@@ -1,0 +1,41 @@
+use Rattle.press_recycle.proofs.Reaches.{hand-fitted}
+use borrow.Author.Needs.{needs}
+use Rattle.press_recycle.proofs.hand.Statement.{statement}
+use Rattle.press_recycle.proofs.hand.Tie as tie
+
+wide-requires : tie.Need-wide-requires
+wide-requires c κs = search needs
+
+mul-fitted : tie.Need-mul-fitted
+mul-fitted c = search needs
+
+shared-slice-read-fitted : tie.Need-shared-slice-read-fitted
+shared-slice-read-fitted c = search needs
+
+fitted-requires : tie.Need-fitted-requires
+fitted-requires c κs = search needs
+
+put-reach-requires : tie.Need-put-reach-requires
+put-reach-requires c κs = search needs
+
+same-length : tie.Need-same-length
+same-length c = search needs
+
+same-length-2 : tie.Need-same-length-2
+same-length-2 c = search needs
+
+returns : tie.Need-returns
+returns c = (search hand-fitted, search needs)
+
+pub hand-spec : {M : Type 1} → statement M
+hand-spec =
+    tie.close
+    (tie.spec
+    wide-requires
+    mul-fitted
+    shared-slice-read-fitted
+    fitted-requires
+    put-reach-requires
+    same-length
+    same-length-2
+    returns)

@@ -1,0 +1,36 @@
+use mathlib.Core.Path.{ap}
+use lib.ListN.{set}
+use Prim.Native.Nat.{ℕ}
+use Rattle.press_recycle.proofs.Reaches.{reach-put}
+use borrow.Author.Needs.{needs}
+use Rattle.press_recycle.proofs.reach.put_reach.Statement.{statement}
+use Rattle.press_recycle.proofs.reach.put_reach.Tie as tie
+
+wide-requires : tie.Need-wide-requires
+wide-requires c κs = search needs
+
+put-clause-requires : tie.Need-put-clause-requires
+put-clause-requires c κs = search needs
+
+slice-write-fates : tie.Need-slice-write-fates
+slice-write-fates c = search needs
+
+same-length : tie.Need-same-length
+same-length c = search needs
+
+same-length-2 : tie.Need-same-length-2
+same-length-2 c = search needs
+
+returns : tie.Need-returns
+returns c = (search reach-put, rw (c .before .before .before .before .wide .ensures))
+
+pub put-reach-spec : {M : Type 1} → statement M
+put-reach-spec =
+    tie.close
+    (tie.spec
+    wide-requires
+    put-clause-requires
+    slice-write-fates
+    same-length
+    same-length-2
+    returns)

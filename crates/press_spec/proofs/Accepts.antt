@@ -1,0 +1,237 @@
+-- The press accepts exactly the proper sheets without drops, with room and marks enough; and what it then says.
+use Prim.Native.Nat.{ℕ, zero, suc, _-_, _*_, _/_, _≤_, _<_}
+use mathlib.Core.Bool.{false, true≢false, _&&_, and-eq-true-iff}
+use mathlib.Core.Path.{_≡_, refl, sym, ap, ap₂, _∙_}
+use mathlib.Core.List.{List, [], _∷_, map}
+use native.Mathlib.Omega.{arith}
+use lib.Dec.{leb}
+use lib.ListN.{length, take, replicate, length-map, List·getD-map}
+use lib.Seq.{length-take-le, take-length, getD-take}
+use borrow.Author.Tests.{leb-true, le-leb}
+use Rattle.clause.specs.Clauses.{Literals}
+use Rattle.sheet.specs.declared.Reason.the-variants.{Room}
+use Rattle.sheet.specs.declared.Verdict.{Verdict}
+use Rattle.sheet.specs.declared.Verdict.the-variants.{Fine, Refused}
+use Rattle.sheet.specs.Editions.{Edition, narrow, recordBytes, lineBytes, pressRecords}
+use Rattle.sheet.specs.Records.{Node, given, step, Record, node, drop, clause, nodeAt}
+use Rattle.sheet.specs.Fields.{recordAt, ruleLines}
+use Rattle.sheet.specs.Fitting.{Known}
+use Rattle.sheet.specs.Counts.{nodesOf, stepsOf, peakFrom}
+use Rattle.sheet.specs.Proper.{recordIn, clauseIn, Held, ProperAfter, ReadsAs, Proper}
+use Rattle.sheet.proofs.Reasons.{unless-fine, fine-unless, andThen-fine, fine-andThen}
+use Rattle.sheet.proofs.RecordBytes.{PivotBelow, reads-pivot, reading-known}
+use Rattle.sheet.proofs.Fine.{Lengths, lengths-fine, fine-lengths}
+use Rattle.press_spec.specs.Judge.{checkRoom, checkPress, Judged, proper, bad, judge}
+use Rattle.press_spec.specs.Links.{links}
+use Rattle.press_spec.specs.Drops.{withDrops, markLines, total}
+use Rattle.press_spec.specs.Press.{pressed, Outcome, accepted, conclusion, emit, emitted, byJudging, byLengths, press}
+use Rattle.press_spec.proofs.Proper.{ProperNode, AllProper, Kept}
+use Rattle.press_spec.proofs.Judged.{AllRead, judged-proper, judge-of}
+use Rattle.press_spec.proofs.Kept.{pressed-kept}
+
+-- ---- records that are all nodes
+
+pub nodes-alone : (s : List Node) → nodesOf (map node s) ≡ s
+unfolding nodesOf
+nodes-alone [] = refl
+nodes-alone (x ∷ s) = ap (λ (t : List Node). x ∷ t) (nodes-alone s)
+
+record-alone : (s : List Node) (k : ℕ) → recordIn (map node s) k ≡ node (nodeAt s k)
+unfolding nodeAt
+record-alone s k = List·getD-map node s k _
+
+take-alone : (k : ℕ) (s : List Node) → take k (map node s) ≡ map node (take k s)
+take-alone zero s = refl
+take-alone (suc k) [] = refl
+take-alone (suc k) (x ∷ s) = ap (λ (t : List Record). node x ∷ t) (take-alone k s)
+
+all-nodes : (rs : List Record) → ((k : ℕ) → k < length rs → Known false (recordIn rs k)) → rs ≡ map node (nodesOf rs)
+unfolding nodesOf
+all-nodes [] f = refl
+all-nodes (node x ∷ rs) f = ap (λ (t : List Record). node x ∷ t) (all-nodes rs (λ k h. f (suc k) (omega arith)))
+all-nodes (drop n ∷ rs) f = absurd (true≢false (sym (f 0 (omega arith))))
+
+-- without drops every sheet reads as nodes alone
+pub reads-nodes : (e : Edition) (sheet : List ℕ) (rs : List Record) → ReadsAs e false sheet rs → rs ≡ map node (nodesOf rs)
+reads-nodes e sheet rs r = all-nodes rs (λ k h. reading-known e false (recordAt e sheet k) (recordIn rs k) (r .each k h))
+
+-- ---- proper after the first k of the nodes s
+
+module _ (s : List Node) (k : ℕ) (inside : k ≤ length s) where
+  abbrev first : List Record
+  first = take k (map node s)
+
+  count-first : length (nodesOf first) ≡ k
+  count-first = rw (take-alone k s, nodes-alone (take k s)) (length-take-le k s inside)
+
+  clause-first : (n : ℕ) → n < k → clauseIn first n ≡ clause (nodeAt s n)
+  unfolding nodeAt
+  clause-first n h = rw (take-alone k s, nodes-alone (take k s)) (ap clause (getD-take k s n _ h))
+
+  held-first : (n : ℕ) → n < k → Held first n
+  held-first n h = (rw count-first h, rw (take-alone k s) (λ j i q. let y = record-alone (take k s) j in let z : _≡_ {A = ℕ} 0 1 = cc in omega arith))
+
+  module _ (e : Edition) (rules : List ℕ) where
+    after-proper : (x : Node) → PivotBelow e x → ProperAfter e rules first (node x) → ProperNode e rules s k x
+    after-proper (given line c) b p = p
+    after-proper (step v l r c) b (left, right, plus, minus, result) =
+        let i : l < k = omega (arith, count-first, left .0) in
+        let j : r < k = omega (arith, count-first, right .0) in
+        rw (← clause-first l i, ← clause-first r j) (b, i, j, plus, minus, result)
+
+    proper-after : (x : Node) → ProperNode e rules s k x → ProperAfter e rules first (node x)
+    proper-after (given line c) p = p
+    proper-after (step v l r c) (b, i, j, plus, minus, result) =
+        rw (clause-first l i, clause-first r j) (held-first l i, held-first r j, plus, minus, result)
+
+last-held : (s : List Node) → 1 ≤ length s → Held (map node s) (length (nodesOf (map node s)) - 1)
+last-held s some =
+    let whole : take (length s) (map node s) ≡ map node s = rw (← length-map s node) (take-length (map node s)) in
+    rw whole at (held-first s (length s) (omega arith) (length (nodesOf (map node s)) - 1) (omega (arith, ap length (nodes-alone s))))
+
+-- ---- checks 1 to 5
+
+-- n records, with room for the output and a mark for each rule line
+abbrev pub Roomy : Edition → ℕ → ℕ → ℕ → ℕ → Type 0
+Roomy e n lines room marks = (recordBytes e * (2 * n - 1) ≤ room) × (lines ≤ marks)
+
+abbrev pub Sizes : Edition → ℕ → ℕ → ℕ → ℕ → ℕ → Type 0
+Sizes e sheet rules room marks n = Lengths e (pressRecords e) sheet rules n × Roomy e n (rules / lineBytes e) room marks
+
+record-count : (e : Edition) (sheet n : ℕ) → sheet ≡ recordBytes e * n → sheet / recordBytes e ≡ n
+record-count narrow sheet n q = omega arith
+
+pub press-fine : (e : Edition) (sheet rules room marks : ℕ) → checkPress e sheet rules room marks ≡ Fine
+    → Sizes e sheet rules room marks (sheet / recordBytes e)
+unfolding checkPress checkRoom
+press-fine e sheet rules room marks q =
+    let n = sheet / recordBytes e in
+    let y = andThen-fine _ _ q in
+    let z = and-eq-true-iff (leb (recordBytes e * (2 * n - 1)) room) (leb (rules / lineBytes e) marks) .0 (unless-fine _ Room Fine (y .1) .0) in
+    (lengths-fine e (pressRecords e) sheet rules (y .0), (leb-true _ room (z .0), leb-true _ marks (z .1)))
+
+fine-press : (e : Edition) (sheet rules room marks n : ℕ) → Sizes e sheet rules room marks n → checkPress e sheet rules room marks ≡ Fine
+unfolding checkPress checkRoom
+fine-press e sheet rules room marks n (l, (r, m)) =
+    fine-andThen _ _ (fine-lengths e (pressRecords e) sheet rules n l)
+    (rw (record-count e sheet n (l .0)) (fine-unless _ Room Fine (ap₂ _&&_ (le-leb _ room r) (le-leb _ marks m)) refl))
+
+-- ---- the press
+
+module _ (e : Edition) (sheet rules out marks : List ℕ) where
+  abbrev checked : Verdict
+  checked = checkPress e (length sheet) (length rules) (length out) (length marks)
+
+  press-is : (s : List Node) → checked ≡ Fine → judge e rules sheet ≡ proper s
+      → press e sheet rules out marks ≡ emit e (ruleLines e rules) (pressed s) out marks
+  unfolding press byLengths byJudging
+  press-is s f j = rw (f, j)
+
+  -- every answer but a refusal comes from a sheet that passes 1 to 5 and is judged proper
+  judged-accepted : (c : Literals) (records nodes steps peak marked : ℕ)
+      → press e sheet rules out marks .answer ≡ accepted c records nodes steps peak marked
+      → (checked ≡ Fine) × (s : List Node) × (judge e rules sheet ≡ proper s)
+  unfolding press byLengths byJudging
+  judged-accepted c records nodes steps peak marked = by-lengths checked refl
+    where
+      by-judging : (j : Judged) → judge e rules sheet ≡ j
+          → byJudging e (ruleLines e rules) j out marks .answer ≡ accepted c records nodes steps peak marked
+          → (s : List Node) × (judge e rules sheet ≡ proper s)
+      by-judging (proper s) q a = (s, q)
+      by-judging (bad why k) q a = let z : _≡_ {A = ℕ} 0 1 = cc in absurd (omega arith)
+
+      by-lengths : (v : Verdict) → checked ≡ v → byLengths e sheet rules out marks v .answer ≡ accepted c records nodes steps peak marked
+          → (checked ≡ Fine) × (s : List Node) × (judge e rules sheet ≡ proper s)
+      by-lengths Fine q a = let (s, j) = by-judging (judge e rules sheet) refl a in (q, s, j)
+      by-lengths (Refused why) q a = let z : _≡_ {A = ℕ} 0 1 = cc in absurd (omega arith)
+
+  -- what an accepted press has read, done and said
+  pub record Says (c : Literals) (records nodes steps peak marked : ℕ) : Type 0 where
+    pub input : List Node
+    pub sizes : Sizes e (length sheet) (length rules) (length out) (length marks) (length input)
+    pub read : ReadsAs e false sheet (map node input)
+    pub each : AllProper e rules input
+    pub kept : Kept e rules input (pressed input)
+    pub does : press e sheet rules out marks ≡ emit e (ruleLines e rules) (pressed input) out marks
+    pub concludes : c ≡ conclusion (pressed input)
+    pub recorded : records ≡ length (withDrops (pressed input))
+    pub counts : nodes ≡ length (pressed input)
+    pub takes : steps ≡ stepsOf (pressed input)
+    pub peaks : peak ≡ peakFrom 0 (withDrops (pressed input))
+    pub totals : marked ≡ total (markLines (links (pressed input)) (replicate (ruleLines e rules) 0))
+
+  pub accepted-says : (c : Literals) (records nodes steps peak marked : ℕ)
+      → press e sheet rules out marks .answer ≡ accepted c records nodes steps peak marked → Says c records nodes steps peak marked
+  unfolding emit emitted
+  accepted-says c records nodes steps peak marked a =
+      let (fine, s, j) = judged-accepted c records nodes steps peak marked a in
+      let (each, long, read) = judged-proper e rules sheet s j in
+      let sizes = rw (← long) at (press-fine e (length sheet) (length rules) (length out) (length marks) fine) in
+      let does = press-is s fine j in
+      let said = sym (ap (λ (o : Outcome). o .answer) does) ∙ a in
+      record {
+        input = s;
+        sizes = sizes;
+        read = record {
+          size = rw (length-map s node) (sizes .0 .0);
+          each = λ k h. rw (record-alone s k) (read k (rw (length-map s node) at h));
+        };
+        each = each;
+        kept = pressed-kept e rules s each (sizes .0 .1);
+        does = does;
+        concludes = cc;
+        recorded = cc;
+        counts = cc;
+        takes = cc;
+        peaks = cc;
+        totals = cc;
+      }
+
+  -- ---- a proper sheet
+
+  judge-proper : (s : List Node) → Proper e (pressRecords e) false rules sheet (map node s) → judge e rules sheet ≡ proper s
+  judge-proper s p =
+      let long = length-map s node in
+      let read : AllRead e sheet s = λ k h. rw (record-alone s k) at (p .read .each k (rw long h)) in
+      judge-of e rules sheet s
+      (λ n h. after-proper s n (omega arith) e rules (nodeAt s n) (reads-pivot e false (recordAt e sheet n) (nodeAt s n) (read n h))
+      (rw (record-alone s n) at (p .each n (rw long h))))
+      read (record-count e (length sheet) (length s) (rw long at (p .read .size)))
+
+  pub proper-accepted : (rs : List Record) → Proper e (pressRecords e) false rules sheet rs
+      → Roomy e (length rs) (ruleLines e rules) (length out) (length marks)
+      → (c : Literals) × (records : ℕ) × (nodes : ℕ) × (steps : ℕ) × (peak : ℕ) × (marked : ℕ)
+      × (press e sheet rules out marks .answer ≡ accepted c records nodes steps peak marked)
+  unfolding ruleLines emit emitted
+  proper-accepted rs p roomy =
+      let same = reads-nodes e sheet rs (p .read) in
+      let does = press-is (nodesOf rs)
+      (fine-press e (length sheet) (length rules) (length out) (length marks) (length rs)
+      ((p .read .size, p .some, p .few, p .lines), roomy))
+      (judge-proper (nodesOf rs) (rw same at p)) in
+      (_, _, _, _, _, _, ap (λ (o : Outcome). o .answer) does)
+
+  -- ---- what is accepted is proper
+
+  pub accepted-proper : (c : Literals) (records nodes steps peak marked : ℕ)
+      → press e sheet rules out marks .answer ≡ accepted c records nodes steps peak marked
+      → (rs : List Record) × Proper e (pressRecords e) false rules sheet rs
+      × Roomy e (length rs) (ruleLines e rules) (length out) (length marks)
+  unfolding ruleLines
+  accepted-proper c records nodes steps peak marked a =
+      let y = accepted-says c records nodes steps peak marked a in
+      let s = y .input in
+      let long = length-map s node in (
+        map node s,
+        record {
+          read = y .read;
+          some = rw long (y .sizes .0 .1);
+          few = rw long (y .sizes .0 .2);
+          lines = y .sizes .0 .3;
+          each = λ k h.
+              let i : k < length s = rw long at h in
+              rw (record-alone s k) (proper-after s k (omega arith) e rules (nodeAt s k) (y .each k i));
+          ends = last-held s (y .sizes .0 .1);
+        },
+        rw long (y .sizes .1),
+      )

@@ -1,0 +1,54 @@
+-- What the walks over the row share: the machine values, a slot that is all zero, and where a slot lies.
+use mathlib.Core.Path.{_≡_, refl}
+use Prim.Native.Nat.{ℕ, _<_, _*_, _^_}
+use mathlib.Core.List.{[], _∷_}
+use native.Mathlib.Omega.{arith}
+use mir.Val.{Val}
+use denote.Laws.{Is}
+use denote.Slice.{Room}
+use denote.Struct.Laws as LL
+use denote.Enum.Laws as EL
+use Rattle.replay_spec.specs.Slots.{empty}
+use Rattle.sheet.specs.declared.SlotNo.{SlotNo}
+use Rattle.sheet.proofs.SlotNo as N
+use Rattle.sheet.proofs.SlotNo.Laws as N′
+use Rattle.replay_slots.specs.Said.{slotOf}
+use Rattle.replay_slots.specs.declared.Slot.{Slot}
+use Rattle.replay_slots.specs.declared.Found.{Found}
+use Rattle.replay_slots.specs.declared.Sought.{Sought}
+use Rattle.replay_slots.proofs.Slot as T
+use Rattle.replay_slots.proofs.Slot.Laws as T′
+use Rattle.replay_slots.proofs.Found as F
+use Rattle.replay_slots.proofs.Found.Laws as F′
+use Rattle.replay_slots.proofs.Sought as G
+use Rattle.replay_slots.proofs.Sought.Laws as G′
+
+-- the machine values of a slot, of its number, of what is sought and of what is found
+abbrev pub sv : Slot → Val
+sv = LL.val T.the-type T′.the-laws
+
+abbrev pub nv : SlotNo → Val
+nv = LL.val N.the-type N′.the-laws
+
+abbrev pub gv : Sought → Val
+gv = EL.val G.the-type G′.the-laws
+
+abbrev pub fv : Found → Val
+fv = LL.val F.the-type F′.the-laws
+
+abbrev pub blank : Slot
+blank = record { used = 0; node = record { 0 = 0 }; clause = record { positive = record { 0 = 0 }; negative = record { 0 = 0 } } }
+
+pub blank-is : slotOf blank ≡ empty
+blank-is = refl
+
+-- i as the number of a slot
+abbrev pub number : ℕ → SlotNo
+number i = record { 0 = i }
+
+pub number-is : (i : ℕ) → i < 2 ^ 64 → Is N.the-row (number i) (nv (number i) ∷ [])
+number-is i fits = LL.owes N.the-type N′.the-laws (number i) ((refl, fits), tt)
+
+-- i · 24 fits a word, where i is below a length that has room
+pub mul-fits : (i n : ℕ) → i < n → Room T.the-row n → i * 24 < 2 ^ 64
+mul-fits i n l room = omega (arith, l, room .1)

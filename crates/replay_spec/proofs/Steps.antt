@@ -1,0 +1,276 @@
+-- The whole replay is the public step, again and again: what a turn comes to, why every state of a replay fits the step, and that the
+-- replay goes on from the state after the steps that were taken.
+use mathlib.Core.Path.{_≡_, refl, sym, ap, ap₂, _∙_}
+use mathlib.Core.Bool.{true, _&&_, and-eq-true-iff}
+use mathlib.Core.List.{List}
+use Prim.Native.Nat.{ℕ, zero, suc, _+_, _-_, _*_, _/_, _≤_, _<_}
+use native.Mathlib.Decide.{ℕ-discrete}
+use native.Mathlib.Omega.{arith}
+use lib.Dec.{eqb, ltb, leb}
+use lib.ListN.{length}
+use borrow.Author.Tests.{eq-eqb, lt-ltb, le-leb, eqb-true, ltb-true, leb-true}
+use Rattle.base.proofs.Bytes.{length-part}
+use Rattle.clause.specs.Clauses.{Literals}
+use Rattle.sheet.specs.declared.Reason.{Reason}
+use Rattle.sheet.specs.declared.Verdict.{Verdict}
+use Rattle.sheet.specs.declared.Verdict.the-variants.{Fine, Refused}
+use Rattle.sheet.specs.Editions.{Edition, narrow, recordBytes, replayRecords}
+use Rattle.sheet.specs.Reasons.{numberOf}
+use Rattle.sheet.specs.Records.{given, step, Record, node, drop, Reading, reads, unread}
+use Rattle.sheet.specs.Fields.{reading, recordAt}
+use Rattle.sheet.specs.Counts.{stepOf}
+use Rattle.sheet.specs.Checks.{checkTable, checkLengths}
+use Rattle.sheet.proofs.Fine.{Lengths, lengths-fine, fine-lengths, fine-table}
+use Rattle.replay_spec.specs.Slots.{Slot}
+use Rattle.replay_spec.specs.Step.{Tally, State, seenOf, namesIn, checkRecord, counted, after, Turn, goes, stops, byVerdict, byReading, turn, passes, reached, fits, Stepped, stepped, Step, taken, unfit, byTurn, oneStep}
+use Rattle.replay_spec.specs.Step.{refused as step-refused}
+use Rattle.replay_spec.specs.Replay.{refused, accepted, ending, run, start, byLengths, replay}
+
+-- ---- a turn
+
+-- what the checks say of record r in state s
+abbrev pub judged : Edition → List ℕ → State → Record → Verdict
+judged e rules s r = checkRecord e rules (s .tally .next) (seenOf (s .slots) (namesIn r)) r
+
+module _ (e : Edition) (rules b : List ℕ) (s : State) where
+  pub turn-goes : (r : Record) → reading e true b ≡ reads r → judged e rules s r ≡ Fine → turn e rules b s ≡ goes (after s r)
+  unfolding turn byReading byVerdict
+  turn-goes r q v = rw (q, v)
+
+  pub turn-stops : (r : Record) (why : Reason) → reading e true b ≡ reads r → judged e rules s r ≡ Refused why → turn e rules b s ≡ stops why
+  unfolding turn byReading byVerdict
+  turn-stops r why q v = rw (q, v)
+
+  pub turn-unread : (why : Reason) → reading e true b ≡ unread why → turn e rules b s ≡ stops why
+  unfolding turn byReading
+  turn-unread why q = rw q
+
+  -- a turn that goes has read a record, which is fine
+  pub turn-went : (t : State) → turn e rules b s ≡ goes t
+      → (r : Record) × (reading e true b ≡ reads r) × (judged e rules s r ≡ Fine) × (t ≡ after s r)
+  unfolding turn byReading byVerdict
+  turn-went t g = by-reading (reading e true b) refl g
+    where
+      by-verdict : (r : Record) (v : Verdict) → judged e rules s r ≡ v → byVerdict v (after s r) ≡ goes t → (v ≡ Fine) × (t ≡ after s r)
+      by-verdict r Fine q h = (refl, cc)
+      by-verdict r (Refused why) q h = (cc, cc)
+
+      by-reading : (w : Reading) → reading e true b ≡ w → byReading e rules s w ≡ goes t
+          → (r : Record) × (reading e true b ≡ reads r) × (judged e rules s r ≡ Fine) × (t ≡ after s r)
+      by-reading (reads r) q h = let v = by-verdict r (judged e rules s r) refl h in (r, q, v .0, v .1)
+      by-reading (unread why) q h = let z : _≡_ {A = ℕ} 0 1 = cc in absurd (omega arith)
+
+module _ (e : Edition) (rules sheet : List ℕ) (m k : ℕ) (s : State) where
+  pub run-goes : (t : State) → turn e rules (recordAt e sheet k) s ≡ goes t → run e rules sheet (suc m) k s ≡ run e rules sheet m (suc k) t
+  unfolding run
+  run-goes t g = rw (g, run)
+
+  pub run-stops : (why : Reason) → turn e rules (recordAt e sheet k) s ≡ stops why → run e rules sheet (suc m) k s ≡ refused (numberOf why) k
+  unfolding run
+  run-stops why g = rw (g, run)
+
+-- ---- the lengths
+
+module _ (e : Edition) (sheet rules : List ℕ) (slots : List Slot) where
+  pub replay-runs : (n : ℕ) → Lengths e (replayRecords e) (length sheet) (length rules) n
+      → replay e sheet rules slots .answer ≡ run e rules sheet n 0 (start slots)
+  unfolding replay byLengths
+  replay-runs n l =
+      rw (fine-lengths e (replayRecords e) (length sheet) (length rules) n l)
+      (ap (λ (k : ℕ). run e rules sheet k 0 (start slots)) (ap (λ (k : ℕ). k / recordBytes e) (l .0) ∙ count e n))
+    where
+      count : (f : Edition) (k : ℕ) → recordBytes f * k / recordBytes f ≡ k
+      count narrow k = omega arith
+
+  pub accepted-lengths : (c : Literals) (nodes steps peak : ℕ) → replay e sheet rules slots .answer ≡ accepted c nodes steps peak
+      → Lengths e (replayRecords e) (length sheet) (length rules) (length sheet / recordBytes e)
+  unfolding replay byLengths
+  accepted-lengths c nodes steps peak a = by-verdict (checkLengths e (replayRecords e) (length sheet) (length rules)) refl a
+    where
+      by-verdict : (v : Verdict) → checkLengths e (replayRecords e) (length sheet) (length rules) ≡ v
+          → byLengths e sheet rules slots v .answer ≡ accepted c nodes steps peak
+          → Lengths e (replayRecords e) (length sheet) (length rules) (length sheet / recordBytes e)
+      by-verdict Fine q h = lengths-fine e (replayRecords e) (length sheet) (length rules) q
+      by-verdict (Refused why) q h = let z : _≡_ {A = ℕ} 0 1 = cc in absurd (omega arith)
+
+-- ---- every state of a replay fits
+
+-- the tally after at most k records
+pub record Within (k : ℕ) (t : Tally) : Type 0 where
+  pub next : t .next ≤ k
+  pub held : t .held ≤ t .next
+  pub steps : t .steps ≤ t .next
+
+pub within-counted : (k : ℕ) (t : Tally) (r : Record) → Within k t → Within (suc k) (counted t r)
+unfolding counted stepOf
+within-counted k t (node (given line c)) w = omega arith
+within-counted k t (node (step p l r c)) w = omega arith
+within-counted k t (drop n) w = omega arith
+
+pub fits-within : (e : Edition) (rules b : List ℕ) (t : Tally)
+    → checkTable e (length rules) ≡ Fine → length b ≡ recordBytes e → t .next < replayRecords e → t .held ≤ t .next → t .steps ≤ t .next
+    → fits e (length rules) (length b) t ≡ true
+unfolding fits passes reached
+fits-within e rules b t table size few held steps =
+    rw (
+      eq-eqb (length b) (recordBytes e) size,
+      table,
+      lt-ltb (t .next) (replayRecords e) few,
+      le-leb (t .held) (t .next) held,
+      le-leb (t .steps) (t .next) steps,
+    )
+
+-- and what a fitting record, table and tally tell
+pub fits-tells : (e : Edition) (rules bytes : ℕ) (t : Tally) → fits e rules bytes t ≡ true
+    → (bytes ≡ recordBytes e) × (t .next < replayRecords e) × (t .held ≤ t .next) × (t .steps ≤ t .next)
+unfolding fits reached
+fits-tells e rules bytes t f =
+    let (lent, within) = and-eq-true-iff (eqb bytes (recordBytes e) && passes (checkTable e rules)) (reached e t) .0 f in
+    let (size, table) = and-eq-true-iff (eqb bytes (recordBytes e)) (passes (checkTable e rules)) .0 lent in
+    let (few, steps) = and-eq-true-iff (ltb (t .next) (replayRecords e) && leb (t .held) (t .next)) (leb (t .steps) (t .next)) .0 within in
+    let (next, held) = and-eq-true-iff (ltb (t .next) (replayRecords e)) (leb (t .held) (t .next)) .0 few in (
+      eqb-true bytes (recordBytes e) size,
+      ltb-true (t .next) (replayRecords e) next,
+      leb-true (t .held) (t .next) held,
+      leb-true (t .steps) (t .next) steps,
+    )
+
+-- where they fit, the turn decides
+pub step-by-turn : (e : Edition) (rules b : List ℕ) (k : ℕ) (s : State) (t : Turn)
+    → fits e (length rules) (length b) (s .tally) ≡ true → turn e rules b s ≡ t → oneStep e rules b k s ≡ byTurn k s t
+unfolding oneStep
+step-by-turn e rules b k s t f q = rw f (ap (byTurn k s) q)
+
+pub step-is-turn : (e : Edition) (rules b : List ℕ) (k : ℕ) (s : State)
+    → checkTable e (length rules) ≡ Fine
+    → length b ≡ recordBytes e
+    → s .tally .next < replayRecords e
+    → s .tally .held ≤ s .tally .next
+    → s .tally .steps ≤ s .tally .next
+    → oneStep e rules b k s ≡ byTurn k s (turn e rules b s)
+step-is-turn e rules b k s table size few held steps =
+    step-by-turn e rules b k s (turn e rules b s) (fits-within e rules b (s .tally) table size few held steps) refl
+
+-- ---- the public step in a run
+
+taken-goes : (k : ℕ) (s : State) (t : Turn) → byTurn k s t .answer ≡ taken → t ≡ goes (byTurn k s t .state)
+unfolding byTurn
+taken-goes k s (goes t) h = refl
+taken-goes k s (stops why) h = cc
+
+refused-stops : (k : ℕ) (s : State) (t : Turn) (x j : ℕ) → byTurn k s t .answer ≡ step-refused x j
+    → (why : Reason) × (t ≡ stops why) × (x ≡ numberOf why) × (j ≡ k)
+unfolding byTurn
+refused-stops k s (goes t) x j h = let z : _≡_ {A = ℕ} 0 1 = cc in absurd (omega arith)
+refused-stops k s (stops why) x j h = (why, refl, cc, cc)
+
+never-unfit : (k : ℕ) (s : State) (t : Turn) → byTurn k s t .answer ≡ unfit → ⊥
+unfolding byTurn
+never-unfit k s (goes t) h = let z : _≡_ {A = ℕ} 0 1 = cc in omega arith
+never-unfit k s (stops why) h = let z : _≡_ {A = ℕ} 0 1 = cc in omega arith
+
+record-inside : (e : Edition) (k n : ℕ) → k < n → recordBytes e * k + recordBytes e ≤ recordBytes e * n
+record-inside narrow k n h = omega arith
+
+-- record k of a sheet of n, lent to the step in a state that is within
+module _ (e : Edition) (sheet rules : List ℕ) (n : ℕ) (l : Lengths e (replayRecords e) (length sheet) (length rules) n)
+    (k : ℕ) (h : k < n) (s : State) (w : Within k (s .tally)) where
+  pub step-turns : oneStep e rules (recordAt e sheet k) k s ≡ byTurn k s (turn e rules (recordAt e sheet k) s)
+  unfolding recordAt
+  step-turns =
+      let inside = record-inside e k n h in
+      let few : n ≤ replayRecords e = l .2 in
+      step-is-turn e rules (recordAt e sheet k) k s (fine-table e (length rules) (l .3))
+      (length-part (recordBytes e) sheet (recordBytes e * k) (rw (l .0) inside)) (omega (arith, w .next)) (w .held) (w .steps)
+
+  answer-turns : oneStep e rules (recordAt e sheet k) k s .answer ≡ byTurn k s (turn e rules (recordAt e sheet k) s) .answer
+  answer-turns = ap (λ (x : Stepped). x .answer) step-turns
+
+  -- taken: the run goes on from the state then, which is within
+  pub step-goes-on : (m : ℕ) → oneStep e rules (recordAt e sheet k) k s .answer ≡ taken
+      → (run e rules sheet (suc m) k s ≡ run e rules sheet m (suc k) (oneStep e rules (recordAt e sheet k) k s .state))
+      × Within (suc k) (oneStep e rules (recordAt e sheet k) k s .state .tally)
+  unfolding after
+  step-goes-on m a =
+      let b = recordAt e sheet k in
+      let t = oneStep e rules b k s .state in
+      let g : turn e rules b s ≡ goes t = rw step-turns (taken-goes k s (turn e rules b s) (sym answer-turns ∙ a)) in
+      let (r, read, fine, is) = turn-went e rules b s t g in
+      (run-goes e rules sheet m k s t g, rw is (within-counted k (s .tally) r w))
+
+  -- refused: that is the answer
+  pub step-refuses : (m x j : ℕ) → oneStep e rules (recordAt e sheet k) k s .answer ≡ step-refused x j
+      → run e rules sheet (suc m) k s ≡ refused x j
+  step-refuses m x j a =
+      let (why, g, is, at) = refused-stops k s (turn e rules (recordAt e sheet k) s) x j (sym answer-turns ∙ a) in
+      run-stops e rules sheet m k s why g ∙ ap₂ refused (sym is) (sym at)
+
+  -- and it fits
+  pub step-fits : oneStep e rules (recordAt e sheet k) k s .answer ≡ unfit → ⊥
+  step-fits a = never-unfit k s (turn e rules (recordAt e sheet k) s) (sym answer-turns ∙ a)
+
+-- ---- the public step, again and again
+
+-- the state after k records, each lent to the step with the state before it
+unfoldable pub afterSteps : Edition → List ℕ → List ℕ → State → ℕ → State
+afterSteps e rules sheet s zero = s
+afterSteps e rules sheet s (suc k) = oneStep e rules (recordAt e sheet k) k (afterSteps e rules sheet s k) .state
+
+-- the step's answer to record k after them
+abbrev pub answerAt : Edition → List ℕ → List ℕ → State → ℕ → Step
+answerAt e rules sheet s k = oneStep e rules (recordAt e sheet k) k (afterSteps e rules sheet s k) .answer
+
+abbrev pub FirstTaken : Edition → List ℕ → List ℕ → State → ℕ → Type 0
+FirstTaken e rules sheet s k = (j : ℕ) → j < k → answerAt e rules sheet s j ≡ taken
+
+module _ (e : Edition) (sheet rules : List ℕ) (slots : List Slot) (n : ℕ) (l : Lengths e (replayRecords e) (length sheet) (length rules) n) where
+  -- the tally is within, and the replay goes on from the state after k steps
+  record Reaches (k : ℕ) : Type 0 where
+    within : Within k (afterSteps e rules sheet (start slots) k .tally)
+    runs : (m : ℕ) → k + m ≡ n → replay e sheet rules slots .answer ≡ run e rules sheet m k (afterSteps e rules sheet (start slots) k)
+
+  reaches-more : (k : ℕ) → k < n → Reaches k → answerAt e rules sheet (start slots) k ≡ taken → Reaches (suc k)
+  unfolding afterSteps
+  reaches-more k h y a =
+      let s = afterSteps e rules sheet (start slots) k in
+      record {
+        within = step-goes-on e sheet rules n l k h s (y .within) 0 a .1;
+        runs = λ m o. y .runs (suc m) (omega arith) ∙ step-goes-on e sheet rules n l k h s (y .within) m a .0;
+      }
+
+  reaches : (k : ℕ) → k ≤ n → FirstTaken e rules sheet (start slots) k → Reaches k
+  unfolding afterSteps start
+  reaches zero h first = record { within = omega arith; runs = λ m o. let q : m ≡ n = omega arith in rw q (replay-runs e sheet rules slots n l) }
+  reaches (suc k) h first = reaches-more k h (reaches k (omega arith) (λ j i. first j (omega arith))) (first k (omega arith))
+
+  -- as long as records are taken, the replay goes on from the state after them
+  pub replay-is-steps : (k m : ℕ) → k + m ≡ n → FirstTaken e rules sheet (start slots) k
+      → replay e sheet rules slots .answer ≡ run e rules sheet m k (afterSteps e rules sheet (start slots) k)
+  replay-is-steps k m o first = reaches k (omega arith) first .runs m o
+
+  pub steps-within : (k : ℕ) → k ≤ n → FirstTaken e rules sheet (start slots) k → Within k (afterSteps e rules sheet (start slots) k .tally)
+  steps-within k h first = reaches k h first .within
+
+  -- with every record taken, it answers by the state at the end
+  pub replay-ends : FirstTaken e rules sheet (start slots) n → replay e sheet rules slots .answer ≡ ending n (afterSteps e rules sheet (start slots) n)
+  unfolding run
+  replay-ends first = replay-is-steps n 0 (omega arith) first
+
+  module _ (k : ℕ) (h : k < n) (first : FirstTaken e rules sheet (start slots) k) where
+    -- a turn that goes is one more that is taken, and a turn that stops is the answer
+    pub taken-more : (t : State) → turn e rules (recordAt e sheet k) (afterSteps e rules sheet (start slots) k) ≡ goes t
+        → FirstTaken e rules sheet (start slots) (suc k) × (afterSteps e rules sheet (start slots) (suc k) ≡ t)
+    unfolding afterSteps byTurn
+    taken-more t g =
+        let s = afterSteps e rules sheet (start slots) k in
+        let q : oneStep e rules (recordAt e sheet k) k s ≡ stepped taken t =
+        step-turns e sheet rules n l k h s (steps-within k (omega arith) first) ∙ ap (byTurn k s) g in (
+          (λ j i. elim (ℕ-discrete j k) [ yes o ↦ rw o (ap (λ (x : Stepped). x .answer) q) | no o ↦ first j (omega arith) ]),
+          ap (λ (x : Stepped). x .state) q,
+        )
+
+    pub replay-stops : (why : Reason) → turn e rules (recordAt e sheet k) (afterSteps e rules sheet (start slots) k) ≡ stops why
+        → replay e sheet rules slots .answer ≡ refused (numberOf why) k
+    replay-stops why g =
+        replay-is-steps k (suc (n - suc k)) (omega arith) first
+        ∙ run-stops e rules sheet (n - suc k) k (afterSteps e rules sheet (start slots) k) why g

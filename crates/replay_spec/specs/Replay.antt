@@ -1,0 +1,50 @@
+-- The whole replay: checks 1 to 4, then record by record, then 16.
+use Prim.Native.Nat.{ℕ, zero, suc, _-_, _/_}
+use mathlib.Core.Bool.{cond}
+use mathlib.Core.List.{List}
+use lib.ListN.{length}
+use Rattle.clause.specs.Clauses.{Literals}
+use Rattle.sheet.specs.declared.Reason.the-variants.{NotHeld}
+use Rattle.sheet.specs.declared.Verdict.{Verdict}
+use Rattle.sheet.specs.declared.Verdict.the-variants.{Fine, Refused}
+use Rattle.sheet.specs.Editions.{Edition, recordBytes, replayRecords}
+use Rattle.sheet.specs.Reasons.{numberOf}
+use Rattle.sheet.specs.Fields.{recordAt}
+use Rattle.sheet.specs.Checks.{checkLengths}
+use Rattle.replay_spec.specs.Slots.{Slot, held, clauseHeld, cleared}
+use Rattle.replay_spec.specs.Step.{tally, State, state, goes, stops, turn}
+
+-- the paper's number and record of a refusal; conclusion, nodes, steps and peak of a result
+pub data Answer : Type 0 where
+  refused : ℕ → ℕ → Answer
+  accepted : Literals → ℕ → ℕ → ℕ → Answer
+
+-- 16: at the end the last node isn't held. It reports the count of records.
+unfoldable pub ending : ℕ → State → Answer
+ending k s =
+    let t = s .tally in
+    cond (held (t .next - 1) (s .slots)) (accepted (clauseHeld (t .next - 1) (s .slots)) (t .next) (t .steps) (t .peak)) (refused (numberOf NotHeld) k)
+
+-- m records, the first of them number k
+unfoldable pub run : Edition → List ℕ → List ℕ → ℕ → ℕ → State → Answer
+run e rules sheet zero k s = ending k s
+run e rules sheet (suc m) k s =
+    elim (turn e rules (recordAt e sheet k) s) [ goes t ↦ run e rules sheet m (suc k) t | stops why ↦ refused (numberOf why) k ]
+
+unfoldable pub start : List Slot → State
+start slots = state (tally 0 0 0 0) (cleared slots)
+
+pub record Outcome : Type 0 where
+  pub answer : Answer
+  pub slots : List Slot
+
+abbrev pub outcome : Answer → List Slot → Outcome
+outcome a slots = record { answer = a; slots = slots }
+
+-- "A replay refused by 1 to 4 leaves the slots alone; every other replay, accepted too, ends with all slots free and zero."
+unfoldable pub byLengths : Edition → List ℕ → List ℕ → List Slot → Verdict → Outcome
+byLengths e sheet rules slots Fine = outcome (run e rules sheet (length sheet / recordBytes e) 0 (start slots)) (cleared slots)
+byLengths e sheet rules slots (Refused why) = outcome (refused (numberOf why) 0) slots
+
+unfoldable pub replay : Edition → List ℕ → List ℕ → List Slot → Outcome
+replay e sheet rules slots = byLengths e sheet rules slots (checkLengths e (replayRecords e) (length sheet) (length rules))

@@ -1,0 +1,74 @@
+// The checks that press and replay share, each on values, in the order of the scope document.
+ghost use mathlib.Core.Path.{_≡_};
+ghost use Rattle.clause.specs.Denote.{literalsOf};
+ghost use Rattle.sheet.specs.Editions.{narrow};
+ghost use Rattle.sheet.specs.Checks.{checkTable, checkLengths, checkEarlier, checkStep, checkGiven};
+use clause::Clause;
+use sheet::LineNo;
+use sheet::NodeNo;
+use sheet::Reason;
+use sheet::Verdict;
+use sheet::limits;
+use sheet_read::lines;
+
+// 4: rule table isn't a multiple of 16, or over 1,024 lines.
+pub fn check_table(rules: usize) -> Verdict
+    ensures { λ r. ⌜ r ≡ checkTable narrow rules ⌝ }
+{
+    if rules % limits::LINE_BYTES == 0 && rules / limits::LINE_BYTES <= limits::TABLE_LINES {
+        return Verdict::Fine;
+    }
+    Verdict::Refused(Reason::Table)
+}
+
+// 1 to 4, of the lengths alone, with the most records that the caller takes.
+pub fn check_lengths(most: usize, sheet: usize, rules: usize) -> Verdict
+    ensures { λ r. ⌜ r ≡ checkLengths narrow most sheet rules ⌝ }
+{
+    if sheet % limits::RECORD_BYTES != 0 {
+        return Verdict::Refused(Reason::Ragged);
+    }
+    if sheet == 0 {
+        return Verdict::Refused(Reason::Empty);
+    }
+    if most < sheet / limits::RECORD_BYTES {
+        return Verdict::Refused(Reason::Long);
+    }
+    check_table(rules)
+}
+
+// 9: named node isn't earlier.
+pub fn check_earlier(next: NodeNo, n: NodeNo) -> Verdict
+    ensures { λ r. ⌜ r ≡ checkEarlier (next .0) (n .0) ⌝ }
+{
+    if n.0 < next.0 {
+        return Verdict::Fine;
+    }
+    Verdict::Refused(Reason::NotEarlier)
+}
+
+// 11: +p missing on the left or -p on the right. 12: written clause isn't the result.
+pub fn check_step(p: u8, l: Clause, r: Clause, c: Clause) -> Verdict
+    ensures { λ v. ⌜ v ≡ checkStep p (literalsOf l) (literalsOf r) (literalsOf c) ⌝ }
+{
+    if clause::has(l.positive, p) && clause::has(r.negative, p) {
+        if clause::same(c, clause::resolve(l, r, p)) {
+            return Verdict::Fine;
+        }
+        return Verdict::Refused(Reason::NotResult);
+    }
+    Verdict::Refused(Reason::PivotMissing)
+}
+
+// 13: rule line beyond the table. 14: given clause differs from its rule line.
+pub fn check_given(rules: &[u8], line: LineNo, c: Clause) -> Verdict
+    ensures { λ v. ⌜ v ≡ checkGiven narrow (now (rules .entry)) (line .0) (literalsOf c) ⌝ }
+{
+    if base::wide(line.0) < lines::line_count(rules) {
+        if clause::same(c, lines::line_at(rules, line)) {
+            return Verdict::Fine;
+        }
+        return Verdict::Refused(Reason::LineDiffers);
+    }
+    Verdict::Refused(Reason::NoLine)
+}

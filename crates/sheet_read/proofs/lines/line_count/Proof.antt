@@ -1,0 +1,11 @@
+use Rattle.sheet.specs.Fields.{ruleLines}
+use borrow.Author.Needs.{needs}
+use Rattle.sheet_read.proofs.lines.line_count.Statement.{statement}
+use Rattle.sheet_read.proofs.lines.line_count.Tie as tie
+
+returns : tie.Need-returns
+unfolding ruleLines
+returns c = search needs
+
+pub line-count-spec : {M : Type 1} → statement M
+line-count-spec = tie.close (tie.spec returns)

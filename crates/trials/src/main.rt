@@ -1,4 +1,0 @@
-// Random cases of the second program, from the stream in this crate's `stdin`.
-fn main() {
-    casework::run();
-}

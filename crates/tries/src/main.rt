@@ -1,4 +1,0 @@
-// The worked sheets of the scope document and the directed cases, from the stream in this crate's `stdin`.
-fn main() {
-    casework::run();
-}
