@@ -64,7 +64,7 @@ pub fn check_step(p: u8, l: Clause, r: Clause, c: Clause) -> Verdict
 pub fn check_given(rules: &[u8], line: LineNo, c: Clause) -> Verdict
     ensures { λ v. ⌜ v ≡ checkGiven narrow (now (rules .entry)) (line .0) (literalsOf c) ⌝ }
 {
-    if base::wide(line.0) < lines::line_count(rules) {
+    if line.index() < lines::line_count(rules) {
         if clause::same(c, lines::line_at(rules, line)) {
             return Verdict::Fine;
         }

@@ -2,7 +2,7 @@
 ghost use mathlib.Core.Path.{_≡_};
 ghost use Prim.Native.Nat.{_+_, _≤_};
 ghost use lib.ListN.{length};
-ghost use Rattle.sheet.specs.Editions.{narrow};
+ghost use Rattle.sheet.specs.Editions.{narrow, recordBytes, lineBytes};
 ghost use Rattle.sheet.specs.Fields.{clauseAt, fieldsOf, readGiven, readStep, readDrop, readFields, reading};
 ghost use Rattle.sheet.specs.Denote.{fieldsIn, readingOf, whyUnread};
 ghost use Rattle.clause.specs.Denote.{literalsOf};
@@ -18,19 +18,19 @@ use sheet::limits;
 
 pub mod lines;
 
-// Two sets of eight bytes, one after the other.
+// Two sets, one after the other, as in a rule line.
 pub fn clause_at(b: &[u8], at: usize) -> Clause
-    requires { ⌜ at + 16 ≤ length (now b) ⌝ }
+    requires { ⌜ at + lineBytes narrow ≤ length (now b) ⌝ }
     ensures { λ r. ⌜ literalsOf r ≡ clauseAt narrow (now (b .entry)) at ⌝ }
 {
     Clause {
         positive: Set(base::word_at(b, at)),
-        negative: Set(base::word_at(b, at + 8)),
+        negative: Set(base::word_at(b, at + limits::SET_BYTES)),
     }
 }
 
 fn fields_of(b: &[u8]) -> Fields
-    requires { ⌜ 24 ≤ length (now b) ⌝ }
+    requires { ⌜ recordBytes narrow ≤ length (now b) ⌝ }
     ensures { λ r. ⌜ fieldsIn r ≡ fieldsOf narrow (now (b .entry)) ⌝ }
 {
     Fields {
@@ -39,7 +39,7 @@ fn fields_of(b: &[u8]) -> Fields
         left: base::u16_at(b, 2),
         right: base::u16_at(b, 4),
         line: base::u16_at(b, 6),
-        clause: clause_at(b, 8),
+        clause: clause_at(b, limits::POSITIVE_AT),
     }
 }
 
@@ -77,10 +77,7 @@ fn read_step(f: Fields) -> Reading
 fn read_drop(f: Fields) -> Reading
     ensures { λ r. ⌜ readingOf r ≡ readDrop (fieldsIn f) ⌝ }
 {
-    let none = Clause {
-        positive: Set(0),
-        negative: Set(0),
-    };
+    let none = clause::nothing();
     if f.pivot == 0 && f.right == 0 && f.line == 0 && clause::same(f.clause, none) {
         return Reading::Reads(Record::Drop(NodeNo(f.left)));
     }
@@ -105,7 +102,7 @@ fn read_fields(f: Fields, drops: bool) -> Reading
 
 // How the bytes of a record read; `drops` says whether a drop is a known kind, as it is for the replay.
 pub fn read_record(b: &[u8], drops: bool) -> Reading
-    requires { ⌜ 24 ≤ length (now b) ⌝ }
+    requires { ⌜ recordBytes narrow ≤ length (now b) ⌝ }
     ensures { λ r. ⌜ readingOf r ≡ reading narrow drops (now (b .entry)) ⌝ }
 {
     read_fields(fields_of(b), drops)

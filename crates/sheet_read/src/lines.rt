@@ -18,5 +18,5 @@ pub fn line_at(rules: &[u8], line: LineNo) -> Clause
     requires { ⌜ line .0 < ruleLines narrow (now rules) ⌝ }
     ensures { λ r. ⌜ literalsOf r ≡ ruleLine narrow (now (rules .entry)) (line .0) ⌝ }
 {
-    crate::clause_at(rules, limits::LINE_BYTES * base::wide(line.0))
+    crate::clause_at(rules, limits::LINE_BYTES * line.index())
 }

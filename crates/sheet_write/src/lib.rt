@@ -3,18 +3,16 @@ ghost use mathlib.Core.Path.{_≡_};
 ghost use Prim.Native.Nat.{_+_, _*_, _≤_};
 ghost use lib.ListN.{length};
 ghost use Rattle.base.specs.Bytes.{put};
-ghost use Rattle.sheet.specs.Editions.{narrow};
+ghost use Rattle.sheet.specs.Editions.{narrow, recordBytes};
 ghost use Rattle.sheet.specs.Fields.{fieldBytes, fieldsFor, recordBytesOf};
 ghost use Rattle.sheet.specs.Denote.{fieldsIn, recordOf};
-use clause::Clause;
-use clause::Set;
 use sheet::Fields;
 use sheet::Record;
 use sheet::RecordNo;
 use sheet::limits;
 
 fn put_fields(d: &mut [u8], at: usize, f: Fields)
-    requires { ⌜ at + 24 ≤ length (now d) ⌝ }
+    requires { ⌜ at + recordBytes narrow ≤ length (now d) ⌝ }
     ensures { λ _. ⌜ now (d .exit) ≡ put (now (d .entry)) at (fieldBytes narrow (fieldsIn f)) ⌝ }
 {
     let positive = f.clause.positive;
@@ -23,8 +21,8 @@ fn put_fields(d: &mut [u8], at: usize, f: Fields)
     base::put_u16(d, at + 2, f.left);
     base::put_u16(d, at + 4, f.right);
     base::put_u16(d, at + 6, f.line);
-    base::put_word(d, at + 8, positive.0);
-    base::put_word(d, at + 16, negative.0);
+    base::put_word(d, at + limits::POSITIVE_AT, positive.0);
+    base::put_word(d, at + limits::NEGATIVE_AT, negative.0);
 }
 
 fn fields_for(r: Record) -> Fields
@@ -58,18 +56,15 @@ fn fields_for(r: Record) -> Fields
             left: node.0,
             right: 0,
             line: 0,
-            clause: Clause {
-                positive: Set(0),
-                negative: Set(0),
-            },
+            clause: clause::nothing(),
         },
     }
 }
 
 // Record r as record k of d; the other bytes of d are untouched.
 pub fn put_record(d: &mut [u8], k: RecordNo, r: Record)
-    requires { ⌜ 24 * k .0 + 24 ≤ length (now d) ⌝ }
-    ensures { λ _. ⌜ now (d .exit) ≡ put (now (d .entry)) (24 * k .0) (recordBytesOf narrow (recordOf r)) ⌝ }
+    requires { ⌜ recordBytes narrow * k .0 + recordBytes narrow ≤ length (now d) ⌝ }
+    ensures { λ _. ⌜ now (d .exit) ≡ put (now (d .entry)) (recordBytes narrow * k .0) (recordBytesOf narrow (recordOf r)) ⌝ }
 {
     put_fields(d, limits::RECORD_BYTES * k.0, fields_for(r));
 }

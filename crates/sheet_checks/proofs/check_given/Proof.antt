@@ -9,8 +9,8 @@ use borrow.Author.Needs.{needs}
 use Rattle.sheet_checks.proofs.check_given.Statement.{statement}
 use Rattle.sheet_checks.proofs.check_given.Tie as tie
 
-wide-requires : tie.Need-wide-requires
-wide-requires c κs = search needs
+index-requires : tie.Need-index-requires
+index-requires c κs = search needs
 
 line-count-requires : tie.Need-line-count-requires
 line-count-requires c κs = search needs
@@ -45,7 +45,7 @@ pub check-given-spec : {M : Type 1} → statement M
 check-given-spec =
     tie.close
     (tie.spec
-    wide-requires
+    index-requires
     line-count-requires
     line-at-requires
     same-requires

@@ -2,7 +2,7 @@ use mathlib.Core.Path.{ap, _∙_}
 use Prim.Native.Nat.{_*_}
 use denote.Ref.{now}
 use Rattle.base.specs.Bytes.{put}
-use Rattle.sheet.specs.Editions.{narrow}
+use Rattle.sheet.specs.Editions.{narrow, recordBytes}
 use Rattle.sheet.specs.Fields.{Fields, fieldBytes, recordBytesOf}
 use borrow.Author.Needs.{needs}
 use Rattle.sheet_write.proofs.put_record.Statement.{statement}
@@ -25,7 +25,7 @@ unfolding recordBytesOf
 returns c =
     let p = c .before .before in
     let a = p .before .before .before .before .before .args in
-    p .put-fields .ensures ∙ ap (λ (f : Fields). put (now (a .d)) (24 * a .k .0) (fieldBytes narrow f)) (p .before .fields-for .ensures)
+    p .put-fields .ensures ∙ ap (λ (f : Fields). put (now (a .d)) (recordBytes narrow * a .k .0) (fieldBytes narrow f)) (p .before .fields-for .ensures)
 
 pub put-record-spec : {M : Type 1} → statement M
 put-record-spec =

@@ -4,8 +4,8 @@ use borrow.Author.Needs.{needs}
 use Rattle.sheet_read.proofs.lines.line_at.Statement.{statement}
 use Rattle.sheet_read.proofs.lines.line_at.Tie as tie
 
-wide-requires : tie.Need-wide-requires
-wide-requires c κs = search needs
+index-requires : tie.Need-index-requires
+index-requires c κs = search needs
 
 mul-clause-at : tie.Need-mul-clause-at
 mul-clause-at c = search needs
@@ -16,7 +16,7 @@ clause-at-requires c κs = omega arith
 
 returns : tie.Need-returns
 unfolding ruleLine
-returns c = simp (← c .before .wide .ensures) (c .clause-at .ensures)
+returns c = simp (← c .before .index .ensures) (c .clause-at .ensures)
 
 pub line-at-spec : {M : Type 1} → statement M
-line-at-spec = tie.close (tie.spec wide-requires mul-clause-at clause-at-requires returns)
+line-at-spec = tie.close (tie.spec index-requires mul-clause-at clause-at-requires returns)
