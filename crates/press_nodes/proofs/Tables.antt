@@ -13,29 +13,30 @@ use Rattle.base.proofs.Lists.{map-set}
 use Rattle.clause.specs.Clauses.{Literals, literals}
 use Rattle.sheet.specs.Records.{Node, given, step, clause, nodeAt}
 use Rattle.press_spec.specs.Links.{Link, leaf, join, link, links, linkAt}
-use Rattle.press_nodes.specs.Tables.{linkOf, linksIn, clauseWords, clausesIn, changed, beside, nodeOf, nodesIn, Sound, Links, Nodes}
+use Rattle.press_nodes.specs.Tables.{ofOne, ofTwo, pivotAt, leftAt, rightAt, lineAt, linkOf, linksIn, clauseWords, clausesIn, changed, beside, nodeOf, nodesIn, Sound, Links, Nodes}
 use Rattle.press_spec.proofs.Nodes.{Falls, Falling}
 
 -- ---- links
 
-pub leaf-word : (line : ℕ) → linkOf (1 + line * 281474976710656) ≡ leaf line
+pub leaf-word : (line : ℕ) → linkOf (1 + line * lineAt) ≡ leaf line
 unfolding linkOf
 leaf-word line =
-    let low : (1 + line * 281474976710656) % 256 ≡ 1 = omega arith in
-    let high : (1 + line * 281474976710656) / 281474976710656 ≡ line = omega arith in
+    let low : (1 + line * lineAt) % ofOne ≡ 1 = omega arith in
+    let high : (1 + line * lineAt) / lineAt ≡ line = omega arith in
     simp (low, high)
 
-pub join-word : (p l r : ℕ) → p < 256 → l < 65536 → r < 65536 → linkOf (2 + p * 256 + l * 65536 + r * 4294967296) ≡ join p l r
+pub join-word : (p l r : ℕ) → p < ofOne → l < ofTwo → r < ofTwo → linkOf (2 + p * pivotAt + l * leftAt + r * rightAt) ≡ join p l r
 unfolding linkOf
 join-word p l r hp hl hr =
-    let kind : (2 + p * 256 + l * 65536 + r * 4294967296) % 256 ≡ 2 = omega arith in
-    let by1 : (2 + p * 256 + l * 65536 + r * 4294967296) / 256 ≡ p + l * 256 + r * 16777216 = omega arith in
-    let by2 : (2 + p * 256 + l * 65536 + r * 4294967296) / 65536 ≡ l + r * 65536 = omega arith in
-    let by4 : (2 + p * 256 + l * 65536 + r * 4294967296) / 4294967296 ≡ r = omega arith in
-    let pivot : (p + l * 256 + r * 16777216) % 256 ≡ p = omega arith in
-    let left : (l + r * 65536) % 65536 ≡ l = omega arith in
-    let right : r % 65536 ≡ r = omega arith in
-    simp (kind, by1, by2, by4, pivot, left, right)
+    let word : ℕ = 2 + p * pivotAt + l * leftAt + r * rightAt in
+    let kind : word % ofOne ≡ 2 = omega arith in
+    let from-pivot : word / pivotAt ≡ p + ofOne * (l + r * ofTwo) = omega arith in
+    let from-left : word / leftAt ≡ l + r * ofTwo = omega arith in
+    let from-right : word / rightAt ≡ r = omega arith in
+    let pivot : (p + ofOne * (l + r * ofTwo)) % ofOne ≡ p = omega arith in
+    let left : (l + r * ofTwo) % ofTwo ≡ l = omega arith in
+    let right : r % ofTwo ≡ r = omega arith in
+    simp (kind, from-pivot, from-left, from-right, pivot, left, right)
 
 module _ (h : List ℕ) where
   pub links-length : length (linksIn h) ≡ length h

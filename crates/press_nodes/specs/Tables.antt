@@ -19,9 +19,28 @@ unfoldable pub linkIn : CodeLink → Link
 linkIn (Leaf line) = leaf (line .0)
 linkIn (Join p l r) = join p (l .0) (r .0)
 
+-- how many numbers a byte has room for, and two bytes; and where the parts of a word begin, in the columns of a record's first eight bytes
+abbrev pub ofOne : ℕ
+ofOne = 256
+
+abbrev pub ofTwo : ℕ
+ofTwo = 65536
+
+abbrev pub pivotAt : ℕ
+pivotAt = 256
+
+abbrev pub leftAt : ℕ
+leftAt = 65536
+
+abbrev pub rightAt : ℕ
+rightAt = 4294967296
+
+abbrev pub lineAt : ℕ
+lineAt = 281474976710656
+
 unfoldable pub linkOf : ℕ → Link
 linkOf word =
-    cond (eqb (word % 256) 2) (join (word / 256 % 256) (word / 65536 % 65536) (word / 4294967296 % 65536)) (leaf (word / 281474976710656))
+    cond (eqb (word % ofOne) 2) (join (word / pivotAt % ofOne) (word / leftAt % ofTwo) (word / rightAt % ofTwo)) (leaf (word / lineAt))
 
 unfoldable pub linksIn : List ℕ → List Link
 linksIn table = map linkOf table

@@ -22,7 +22,7 @@ pub fn clause_at(clauses: &[u64], n: NodeNo) -> Clause
     requires { ⌜ clauseWords (suc (n .0)) ≤ length (now clauses) ⌝ }
     ensures { λ c. ⌜ literalsOf c ≡ clausesIn (now (clauses .entry)) (n .0) ⌝ }
 {
-    let i = 2 * base::wide(n.0);
+    let i = 2 * n.index();
     Clause {
         positive: Set(clauses[i]),
         negative: Set(clauses[i + 1]),
@@ -34,7 +34,7 @@ pub fn put_clause(clauses: &mut [u64], n: NodeNo, c: Clause)
     requires { ⌜ clauseWords (suc (n .0)) ≤ length (now clauses) ⌝ }
     ensures { λ _. ⌜ clausesIn (now (clauses .exit)) ≡ changed (n .0) (literalsOf c) (clausesIn (now (clauses .entry))) ⌝ }
 {
-    let i = 2 * base::wide(n.0);
+    let i = 2 * n.index();
     let positive = c.positive;
     let negative = c.negative;
     clauses[i] = positive.0;

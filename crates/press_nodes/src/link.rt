@@ -7,6 +7,25 @@ ghost use Rattle.press_nodes.specs.Tables.{linkIn, linkOf, linksIn};
 use sheet::LineNo;
 use sheet::NodeNo;
 
+// Where the parts of the word begin: the columns of a record's first eight bytes.
+const PIVOT_AT: u64 = 256;
+
+const LEFT_AT: u64 = 65536;
+
+const RIGHT_AT: u64 = 4294967296;
+
+const LINE_AT: u64 = 281474976710656;
+
+// How many numbers a byte has room for, and two bytes.
+const OF_ONE: u64 = 256;
+
+const OF_TWO: u64 = 65536;
+
+// The kinds of a record that are nodes.
+const GIVEN: u64 = 1;
+
+const STEP: u64 = 2;
+
 pub enum Link {
     Leaf(LineNo),
     Join {
@@ -19,26 +38,26 @@ pub enum Link {
 fn leaf_word(line: LineNo) -> u64
     ensures { λ w. ⌜ linkOf w ≡ leaf (line .0) ⌝ }
 {
-    1 + line.0 as u64 * 281474976710656
+    GIVEN + line.0 as u64 * LINE_AT
 }
 
 fn join_word(p: u8, l: NodeNo, r: NodeNo) -> u64
     ensures { λ w. ⌜ linkOf w ≡ join p (l .0) (r .0) ⌝ }
 {
-    2 + p as u64 * 256 + l.0 as u64 * 65536 + r.0 as u64 * 4294967296
+    STEP + p as u64 * PIVOT_AT + l.0 as u64 * LEFT_AT + r.0 as u64 * RIGHT_AT
 }
 
 fn link_of(word: u64) -> Link
     ensures { λ r. ⌜ linkIn r ≡ linkOf word ⌝ }
 {
-    if word % 256 == 2 {
+    if word % OF_ONE == STEP {
         return Link::Join {
-            pivot: (word / 256 % 256) as u8,
-            left: NodeNo((word / 65536 % 65536) as u16),
-            right: NodeNo((word / 4294967296 % 65536) as u16),
+            pivot: (word / PIVOT_AT % OF_ONE) as u8,
+            left: NodeNo((word / LEFT_AT % OF_TWO) as u16),
+            right: NodeNo((word / RIGHT_AT % OF_TWO) as u16),
         };
     }
-    Link::Leaf(LineNo((word / 281474976710656) as u16))
+    Link::Leaf(LineNo((word / LINE_AT) as u16))
 }
 
 // The link of node n.
@@ -46,7 +65,7 @@ pub fn link_at(links: &[u64], n: NodeNo) -> Link
     requires { ⌜ n .0 < length (now links) ⌝ }
     ensures { λ r. ⌜ linkIn r ≡ linkAt (linksIn (now (links .entry))) (n .0) ⌝ }
 {
-    let i = base::wide(n.0);
+    let i = n.index();
     link_of(links[i])
 }
 
@@ -54,7 +73,7 @@ fn put_word(links: &mut [u64], n: NodeNo, word: u64)
     requires { ⌜ n .0 < length (now links) ⌝ }
     ensures { λ _. ⌜ linksIn (now (links .exit)) ≡ set (linksIn (now (links .entry))) (n .0) (linkOf word) ⌝ }
 {
-    let i = base::wide(n.0);
+    let i = n.index();
     links[i] = word;
 }
 

@@ -56,7 +56,7 @@ fn stand_in(stand_ins: &[u16], n: NodeNo) -> NodeNo
     requires { ⌜ n .0 < length (now «stand_ins») ⌝ }
     ensures { λ r. ⌜ r .0 ≡ getD (now («stand_ins» .entry)) (n .0) 0 ⌝ }
 {
-    let i = base::wide(n.0);
+    let i = n.index();
     NodeNo(stand_ins[i])
 }
 
@@ -65,7 +65,7 @@ fn stands_for(stand_ins: &mut [u16], n: NodeNo, m: NodeNo)
     requires { ⌜ n .0 < length (now «stand_ins») ⌝ }
     ensures { λ _. ⌜ now («stand_ins» .exit) ≡ set (now («stand_ins» .entry)) (n .0) (m .0) ⌝ }
 {
-    let i = base::wide(n.0);
+    let i = n.index();
     stand_ins[i] = m.0;
 }
 
@@ -86,9 +86,9 @@ fn renew_step(
 {
     let left = stand_in(stand_ins, l);
     let right = stand_in(stand_ins, r);
-    let a = clause_table::clause_at(clauses, left);
-    let b = clause_table::clause_at(clauses, right);
-    let way = way_of(cut, p, a, b);
+    let left_clause = clause_table::clause_at(clauses, left);
+    let right_clause = clause_table::clause_at(clauses, right);
+    let way = way_of(cut, p, left_clause, right_clause);
     match way {
         Way::TakeLeft => {
             stands_for(stand_ins, n, left);
@@ -99,7 +99,7 @@ fn renew_step(
             return;
         }
         Way::StepAnew => {
-            let result = clause::resolve(a, b, p);
+            let result = clause::resolve(left_clause, right_clause, p);
             node::put_step(links, clauses, n, p, left, right, result);
             stands_for(stand_ins, n, n);
             return;
@@ -107,8 +107,14 @@ fn renew_step(
     }
 }
 
-// Node n, which is kept with this cut.
-fn renew_node(links: &mut [u64], clauses: &mut [u64], cut: Cut, n: NodeNo, stand_ins: &mut [u16])
+// Node n, which is kept with this cut. It knows nothing of who decided the cut: a pass may decide on its way and call this at once.
+pub fn renew_node(
+    links: &mut [u64],
+    clauses: &mut [u64],
+    cut: Cut,
+    n: NodeNo,
+    stand_ins: &mut [u16],
+)
     requires { ⌜ (length (now clauses) ≡ clauseWords (length (now links))) × StandIns (length (now links)) (now «stand_ins») ⌝ }
     requires { ⌜ (n .0 < length (now links)) × Sound (n .0) (linkAt (linksIn (now links)) (n .0)) ⌝ }
     ensures { λ _. ⌜ (let t = nodesIn (now (links .entry)) (now (clauses .entry)) in built (nodesIn (now (links .exit)) (now (clauses .exit))) (now («stand_ins» .exit)) ≡ renew (n .0) (nodeAt t (n .0)) (kept (cutIn cut)) (built t (now («stand_ins» .entry)))) ⌝ }

@@ -70,7 +70,7 @@ fn hand(uses: &[u16], n: NodeNo, s: Clause, fates: &mut [u8], sets: &mut [u64])
     ensures reaches { λ _. ⌜ reachesIn (now (fates .exit)) (now (sets .exit)) ≡ hand (reset (countIn (now (uses .entry)))) (n .0) (literalsOf s) (reachesIn (now (fates .entry)) (now (sets .entry))) ⌝ }
     ensures bytes { λ _. ⌜ now (fates .exit) ≡ set (now (fates .entry)) (n .0) 1 ⌝ }
 {
-    let i = base::wide(n.0);
+    let i = n.index();
     reach::put_reach(fates, sets, n, fitted(uses[i], s));
 }
 

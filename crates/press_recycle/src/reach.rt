@@ -10,6 +10,7 @@ ghost use Rattle.press_recycle.specs.Passes.{reachIn, reachesIn};
 use clause::Clause;
 use press_nodes::clause_table;
 use press_nodes::clear;
+use press_nodes::fate;
 use sheet::NodeNo;
 
 pub enum Reach {
@@ -21,8 +22,8 @@ pub(crate) fn reach_at(fates: &[u8], sets: &[u64], n: NodeNo) -> Reach
     requires { ⌜ (n .0 < length (now fates)) × (clauseWords (suc (n .0)) ≤ length (now sets)) ⌝ }
     ensures { λ r. ⌜ reachIn r ≡ getD (reachesIn (now (fates .entry)) (now (sets .entry))) (n .0) unreached ⌝ }
 {
-    let i = base::wide(n.0);
-    if fates[i] == 0 {
+    let i = n.index();
+    if fates[i] == fate::LOST {
         return Reach::Unreached;
     }
     Reach::Reached(clause_table::clause_at(sets, n))
@@ -34,9 +35,9 @@ pub(crate) fn put_reach(fates: &mut [u8], sets: &mut [u64], n: NodeNo, s: Clause
     ensures reaches { λ _. ⌜ reachesIn (now (fates .exit)) (now (sets .exit)) ≡ set (reachesIn (now (fates .entry)) (now (sets .entry))) (n .0) (reached (literalsOf s)) ⌝ }
     ensures bytes { λ _. ⌜ now (fates .exit) ≡ set (now (fates .entry)) (n .0) 1 ⌝ }
 {
-    let i = base::wide(n.0);
+    let i = n.index();
     clause_table::put_clause(sets, n, s);
-    fates[i] = 1;
+    fates[i] = fate::KEPT;
 }
 
 // Node n alone is reached, and its set is empty.

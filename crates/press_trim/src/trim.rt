@@ -15,15 +15,15 @@ fn trim_turn(links: &[u64], n: NodeNo, kept: &mut [u8])
     requires { ⌜ (length (now kept) ≡ length (now links)) × (n .0 < length (now links)) ⌝ }
     ensures { λ _. ⌜ now (kept .exit) ≡ trimTurn (linksIn (now (links .entry))) (n .0) (now (kept .entry)) ⌝ }
 {
-    let i = base::wide(n.0);
+    let i = n.index();
     if kept[i] == 0 {
         return;
     }
     let Link::Join { left, right, .. } = link::link_at(links, n) else {
         return;
     };
-    let l = base::wide(left.0);
-    let r = base::wide(right.0);
+    let l = left.index();
+    let r = right.index();
     kept[l] = 1;
     kept[r] = 1;
 }
@@ -35,7 +35,7 @@ pub(crate) fn trim(links: &[u64], from: NodeNo, kept: &mut [u8])
     ensures { λ _. ⌜ now (kept .exit) ≡ trim (linksIn (now (links .entry))) (from .0) ⌝ }
 {
     clear::clear_marks(kept);
-    let start = base::wide(from.0);
+    let start = from.index();
     kept[start] = 1;
     let mut i = from.0 + 1;
     while 0 < i {

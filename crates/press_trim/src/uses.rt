@@ -20,8 +20,8 @@ fn add_uses(counts: &mut [u16], l: NodeNo, r: NodeNo)
     requires { ⌜ ((m : ℕ) → getD (now counts) m 0 ≤ 2 * capacity) ⌝ }
     ensures { λ _. ⌜ ((m : ℕ) → getD (now (counts .exit)) m 0 ≡ getD (now (counts .entry)) m 0 + (naming m (l .0) + naming m (r .0))) ⌝ }
 {
-    let i = base::wide(l.0);
-    let j = base::wide(r.0);
+    let i = l.index();
+    let j = r.index();
     counts[i] += 1;
     counts[j] += 1;
 }
@@ -33,7 +33,7 @@ fn use_turn(links: &[u64], kept: &[u8], n: NodeNo, counts: &mut [u16])
     requires { ⌜ ((m : ℕ) → getD (now counts) m 0 ≤ 2 * capacity) ⌝ }
     ensures { λ _. ⌜ ((m : ℕ) → getD (now (counts .exit)) m 0 ≡ getD (now (counts .entry)) m 0 + uses (trimmed (linkAt (linksIn (now (links .entry))) (n .0) ∷ []) (getD (now (kept .entry)) (n .0) 0 ∷ [])) m) ⌝ }
 {
-    let i = base::wide(n.0);
+    let i = n.index();
     if kept[i] == 0 {
         return;
     }

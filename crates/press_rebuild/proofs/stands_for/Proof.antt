@@ -2,8 +2,8 @@ use borrow.Author.Needs.{needs}
 use Rattle.press_rebuild.proofs.stands_for.Statement.{statement}
 use Rattle.press_rebuild.proofs.stands_for.Tie as tie
 
-wide-requires : tie.Need-wide-requires
-wide-requires c κs = search needs
+index-requires : tie.Need-index-requires
+index-requires c κs = search needs
 
 mul-stand-ins : tie.Need-mul-stand-ins
 mul-stand-ins c = search needs
@@ -15,8 +15,8 @@ same-length : tie.Need-same-length
 same-length c = search needs
 
 returns : tie.Need-returns
-returns c = rw (c .wide .ensures)
+returns c = rw (c .index .ensures)
 
 pub stands-for-spec : {M : Type 1} → statement M
 stands-for-spec =
-    tie.close (tie.spec wide-requires mul-stand-ins slice-write-stand-ins same-length returns)
+    tie.close (tie.spec index-requires mul-stand-ins slice-write-stand-ins same-length returns)

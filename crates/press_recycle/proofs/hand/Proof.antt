@@ -3,8 +3,8 @@ use borrow.Author.Needs.{needs}
 use Rattle.press_recycle.proofs.hand.Statement.{statement}
 use Rattle.press_recycle.proofs.hand.Tie as tie
 
-wide-requires : tie.Need-wide-requires
-wide-requires c κs = search needs
+index-requires : tie.Need-index-requires
+index-requires c κs = search needs
 
 mul-fitted : tie.Need-mul-fitted
 mul-fitted c = search needs
@@ -31,7 +31,7 @@ pub hand-spec : {M : Type 1} → statement M
 hand-spec =
     tie.close
     (tie.spec
-    wide-requires
+    index-requires
     mul-fitted
     shared-slice-read-fitted
     fitted-requires

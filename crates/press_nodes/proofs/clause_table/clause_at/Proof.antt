@@ -6,8 +6,8 @@ use borrow.Author.Needs.{needs}
 use Rattle.press_nodes.proofs.clause_table.clause_at.Statement.{statement}
 use Rattle.press_nodes.proofs.clause_table.clause_at.Tie as tie
 
-wide-requires : tie.Need-wide-requires
-wide-requires c κs = search needs
+index-requires : tie.Need-index-requires
+index-requires c κs = search needs
 
 mul-i : tie.Need-mul-i
 mul-i c = search needs
@@ -29,13 +29,13 @@ shared-slice-read-t11 c = search needs
 
 returns : tie.Need-returns
 unfolding clausesIn
-returns c = let s = c .before .before .before .before in ap (λ (i : ℕ). clausesIn (s .args .clauses .now) i) (c .before .before .wide .ensures)
+returns c = let s = c .before .before .before .before in ap (λ (i : ℕ). clausesIn (s .args .clauses .now) i) (c .before .before .index .ensures)
 
 pub clause-at-spec : {M : Type 1} → statement M
 clause-at-spec =
     tie.close
     (tie.spec
-    wide-requires
+    index-requires
     mul-i
     mul-t4
     shared-slice-read-t6

@@ -5,8 +5,8 @@ use borrow.Author.Needs.{needs}
 use Rattle.press_nodes.proofs.clause_table.put_clause.Statement.{statement}
 use Rattle.press_nodes.proofs.clause_table.put_clause.Tie as tie
 
-wide-requires : tie.Need-wide-requires
-wide-requires c κs = search needs
+index-requires : tie.Need-index-requires
+index-requires c κs = search needs
 
 mul-i : tie.Need-mul-i
 mul-i c = search needs
@@ -30,13 +30,13 @@ same-length : tie.Need-same-length
 same-length c = search needs
 
 returns : tie.Need-returns
-returns c = clauses-put _ _ _ _ _ (c .before .before .wide .ensures) (omega arith)
+returns c = clauses-put _ _ _ _ _ (c .before .before .index .ensures) (omega arith)
 
 pub put-clause-spec : {M : Type 1} → statement M
 put-clause-spec =
     tie.close
     (tie.spec
-    wide-requires
+    index-requires
     mul-i
     mul-clauses
     slice-write-clauses

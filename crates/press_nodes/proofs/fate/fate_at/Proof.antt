@@ -4,8 +4,8 @@ use borrow.Author.Needs.{needs}
 use Rattle.press_nodes.proofs.fate.fate_at.Statement.{statement}
 use Rattle.press_nodes.proofs.fate.fate_at.Tie as tie
 
-wide-requires : tie.Need-wide-requires
-wide-requires c κs = search needs
+index-requires : tie.Need-index-requires
+index-requires c κs = search needs
 
 shared-slice-read-byte : tie.Need-shared-slice-read-byte
 shared-slice-read-byte c = search needs
@@ -28,4 +28,4 @@ returns-4 c = search fate-kept
 
 pub fate-at-spec : {M : Type 1} → statement M
 fate-at-spec =
-    tie.close (tie.spec wide-requires shared-slice-read-byte returns returns-2 returns-3 returns-4)
+    tie.close (tie.spec index-requires shared-slice-read-byte returns returns-2 returns-3 returns-4)

@@ -4,8 +4,8 @@ use borrow.Author.Needs.{needs}
 use Rattle.press_nodes.proofs.link.link_at.Statement.{statement}
 use Rattle.press_nodes.proofs.link.link_at.Tie as tie
 
-wide-requires : tie.Need-wide-requires
-wide-requires c κs = search needs
+index-requires : tie.Need-index-requires
+index-requires c κs = search needs
 
 mul-link-of : tie.Need-mul-link-of
 mul-link-of c = search needs
@@ -17,9 +17,9 @@ link-of-requires : tie.Need-link-of-requires
 link-of-requires c κs = search needs
 
 returns : tie.Need-returns
-returns c = c .link-of .ensures ∙ links-at _ _ _ (c .before .before .wide .ensures)
+returns c = c .link-of .ensures ∙ links-at _ _ _ (c .before .before .index .ensures)
 
 pub link-at-spec : {M : Type 1} → statement M
 link-at-spec =
     tie.close
-    (tie.spec wide-requires mul-link-of shared-slice-read-link-of link-of-requires returns)
+    (tie.spec index-requires mul-link-of shared-slice-read-link-of link-of-requires returns)

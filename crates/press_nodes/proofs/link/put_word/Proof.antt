@@ -3,8 +3,8 @@ use borrow.Author.Needs.{needs}
 use Rattle.press_nodes.proofs.link.put_word.Statement.{statement}
 use Rattle.press_nodes.proofs.link.put_word.Tie as tie
 
-wide-requires : tie.Need-wide-requires
-wide-requires c κs = search needs
+index-requires : tie.Need-index-requires
+index-requires c κs = search needs
 
 mul-links : tie.Need-mul-links
 mul-links c = search needs
@@ -19,4 +19,4 @@ returns : tie.Need-returns
 returns c = search links-set
 
 pub put-word-spec : {M : Type 1} → statement M
-put-word-spec = tie.close (tie.spec wide-requires mul-links slice-write-links same-length returns)
+put-word-spec = tie.close (tie.spec index-requires mul-links slice-write-links same-length returns)

@@ -6,8 +6,8 @@ use borrow.Author.Needs.{needs}
 use Rattle.press_recycle.proofs.reach.put_reach.Statement.{statement}
 use Rattle.press_recycle.proofs.reach.put_reach.Tie as tie
 
-wide-requires : tie.Need-wide-requires
-wide-requires c κs = search needs
+index-requires : tie.Need-index-requires
+index-requires c κs = search needs
 
 put-clause-requires : tie.Need-put-clause-requires
 put-clause-requires c κs = search needs
@@ -22,13 +22,13 @@ same-length-2 : tie.Need-same-length-2
 same-length-2 c = search needs
 
 returns : tie.Need-returns
-returns c = (search reach-put, rw (c .before .before .before .before .wide .ensures))
+returns c = (search reach-put, rw (c .before .before .before .before .index .ensures))
 
 pub put-reach-spec : {M : Type 1} → statement M
 put-reach-spec =
     tie.close
     (tie.spec
-    wide-requires
+    index-requires
     put-clause-requires
     slice-write-fates
     same-length

@@ -4,8 +4,8 @@ use borrow.Author.Needs.{needs}
 use Rattle.press_recycle.proofs.reach.reach_at.Statement.{statement}
 use Rattle.press_recycle.proofs.reach.reach_at.Tie as tie
 
-wide-requires : tie.Need-wide-requires
-wide-requires c κs = search needs
+index-requires : tie.Need-index-requires
+index-requires c κs = search needs
 
 shared-slice-read-if1 : tie.Need-shared-slice-read-if1
 shared-slice-read-if1 c = search needs
@@ -23,4 +23,4 @@ returns-2 c = search reach-some
 
 pub reach-at-spec : {M : Type 1} → statement M
 reach-at-spec =
-    tie.close (tie.spec wide-requires shared-slice-read-if1 returns clause-at-requires returns-2)
+    tie.close (tie.spec index-requires shared-slice-read-if1 returns clause-at-requires returns-2)

@@ -21,8 +21,8 @@ abbrev μ-loop : tie.MeasureT-loop
 clear-marks-requires : tie.Need-clear-marks-requires Inv-loop μ-loop
 clear-marks-requires c κs = search needs
 
-wide-requires : tie.Need-wide-requires Inv-loop μ-loop
-wide-requires c κs = search needs
+index-requires : tie.Need-index-requires Inv-loop μ-loop
+index-requires c κs = search needs
 
 slice-write-kept : tie.Need-slice-write-kept Inv-loop μ-loop
 slice-write-kept c = search needs
@@ -58,7 +58,7 @@ trim-spec =
     Inv-loop
     μ-loop
     clear-marks-requires
-    wide-requires
+    index-requires
     slice-write-kept
     add-i
     loop-holds

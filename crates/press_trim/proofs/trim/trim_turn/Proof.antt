@@ -6,8 +6,8 @@ use borrow.Author.Needs.{needs}
 use Rattle.press_trim.proofs.trim.trim_turn.Statement.{statement}
 use Rattle.press_trim.proofs.trim.trim_turn.Tie as tie
 
-wide-requires : tie.Need-wide-requires
-wide-requires c κs = search needs
+index-requires : tie.Need-index-requires
+index-requires c κs = search needs
 
 slice-read-if1 : tie.Need-slice-read-if1
 slice-read-if1 c = search needs
@@ -27,11 +27,11 @@ enum-told c = search needs
 returns-2 : tie.Need-returns-2
 returns-2 c = let e = found-leaf _ _ _ (c .before .before .link-at .ensures) (c .enum-told .given .1) in search trim-leaf
 
-wide-requires-2 : tie.Need-wide-requires-2
-wide-requires-2 c κs = search needs
+index-requires-2 : tie.Need-index-requires-2
+index-requires-2 c κs = search needs
 
-wide-requires-3 : tie.Need-wide-requires-3
-wide-requires-3 c κs = search needs
+index-requires-3 : tie.Need-index-requires-3
+index-requires-3 c κs = search needs
 
 slice-write-kept : tie.Need-slice-write-kept
 slice-write-kept c = let a = c .before .before .before in
@@ -57,15 +57,15 @@ pub trim-turn-spec : {M : Type 1} → statement M
 trim-turn-spec =
     tie.close
     (tie.spec
-    wide-requires
+    index-requires
     slice-read-if1
     returns
     link-at-requires
     enum-known-left
     enum-told
     returns-2
-    wide-requires-2
-    wide-requires-3
+    index-requires-2
+    index-requires-3
     slice-write-kept
     slice-write-kept-2
     same-length

@@ -5,8 +5,8 @@ use borrow.Author.Needs.{needs}
 use Rattle.press_trim.proofs.uses.use_turn.Statement.{statement}
 use Rattle.press_trim.proofs.uses.use_turn.Tie as tie
 
-wide-requires : tie.Need-wide-requires
-wide-requires c κs = search needs
+index-requires : tie.Need-index-requires
+index-requires c κs = search needs
 
 shared-slice-read-if1 : tie.Need-shared-slice-read-if1
 shared-slice-read-if1 c = search needs
@@ -44,7 +44,7 @@ pub use-turn-spec : {M : Type 1} → statement M
 use-turn-spec =
     tie.close
     (tie.spec
-    wide-requires
+    index-requires
     shared-slice-read-if1
     returns
     link-at-requires
