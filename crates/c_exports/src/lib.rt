@@ -1,7 +1,7 @@
 // The C interface: the press and the replay with numbers, slices and references only, as include/tempuquile.h declares them.
 ghost use mathlib.Core.Path.{_≡_};
 ghost use Rattle.sheet.specs.Editions.{narrow};
-ghost use Rattle.press_spec.specs.Press.{press};
+ghost use Rattle.press_spec.specs.Press.{call, press};
 ghost use Rattle.replay_spec.specs.Replay.{replay};
 ghost use Rattle.replay_slots.specs.Said.{rowOf};
 ghost use Rattle.c_report.specs.Report.{fill, pressCode, pressWords, replayCode, replayWords};
@@ -17,10 +17,10 @@ pub extern "C" fn tempuquile_press(
     marks: &mut [u8],
     report: &mut [u64],
 ) -> u32
-    ensures code { λ r. ⌜ r ≡ pressCode (press narrow (now (sheet .entry)) (now (rules .entry)) (now (out .entry)) (now (marks .entry)) .answer) ⌝ }
-    ensures out { λ r. ⌜ now (out .exit) ≡ press narrow (now (sheet .entry)) (now (rules .entry)) (now (out .entry)) (now (marks .entry)) .out ⌝ }
-    ensures marks { λ r. ⌜ now (marks .exit) ≡ press narrow (now (sheet .entry)) (now (rules .entry)) (now (out .entry)) (now (marks .entry)) .marks ⌝ }
-    ensures report { λ r. ⌜ now (report .exit) ≡ fill 0 (pressWords (press narrow (now (sheet .entry)) (now (rules .entry)) (now (out .entry)) (now (marks .entry)) .answer)) (now (report .entry)) ⌝ }
+    ensures code { λ r. ⌜ r ≡ pressCode (press narrow (call (now (sheet .entry)) (now (rules .entry)) (now (out .entry)) (now (marks .entry))) .answer) ⌝ }
+    ensures out { λ r. ⌜ now (out .exit) ≡ press narrow (call (now (sheet .entry)) (now (rules .entry)) (now (out .entry)) (now (marks .entry))) .out ⌝ }
+    ensures marks { λ r. ⌜ now (marks .exit) ≡ press narrow (call (now (sheet .entry)) (now (rules .entry)) (now (out .entry)) (now (marks .entry))) .marks ⌝ }
+    ensures report { λ r. ⌜ now (report .exit) ≡ fill 0 (pressWords (press narrow (call (now (sheet .entry)) (now (rules .entry)) (now (out .entry)) (now (marks .entry))) .answer)) (now (report .entry)) ⌝ }
 {
     c_report::tell_press(press::press(sheet, rules, out, marks), report)
 }

@@ -12,12 +12,13 @@ fill i (w ∷ ws) row = fill (suc i) ws (set row i w)
 
 unfoldable pub pressCode : Answer → ℕ
 pressCode (refused why k) = why
-pressCode (accepted c records nodes steps peak marked) = 0
+pressCode (accepted r) = 0
 
 -- record, positive, negative, records, nodes, steps, peak, marked: on a refusal all but the first are 0, on acceptance the first is
 unfoldable pub pressWords : Answer → List ℕ
 pressWords (refused why k) = k ∷ 0 ∷ 0 ∷ 0 ∷ 0 ∷ 0 ∷ 0 ∷ 0 ∷ []
-pressWords (accepted c records nodes steps peak marked) = 0 ∷ c .positive ∷ c .negative ∷ records ∷ nodes ∷ steps ∷ peak ∷ marked ∷ []
+pressWords (accepted r) =
+    0 ∷ r .conclusion .positive ∷ r .conclusion .negative ∷ r .records ∷ r .nodes ∷ r .steps ∷ r .peak ∷ r .marked ∷ []
 
 unfoldable pub replayCode : R.Answer → ℕ
 replayCode (R.refused why k) = why

@@ -1,14 +1,14 @@
 // Judging: "Checks 1 to 5 come first, in number order, and report record 0. Then records in order: the first bad record answers, with the
 // smallest number that applies."
 ghost use mathlib.Core.Path.{_≡_};
-ghost use Prim.Native.Nat.{_+_, _*_, _<_, _≤_};
+ghost use Prim.Native.Nat.{_+_, _*_, _/_, _<_, _≤_};
 ghost use mathlib.Core.List.{List};
 ghost use Prim.Native.Nat.{ℕ};
 ghost use lib.ListN.{length, take};
 ghost use Rattle.clause.specs.Denote.{literalsOf};
-ghost use Rattle.sheet.specs.Editions.{narrow, capacity};
+ghost use Rattle.sheet.specs.Editions.{narrow, recordBytes, pressRecords, capacity};
 ghost use Rattle.sheet.specs.Records.{step};
-ghost use Rattle.press_spec.specs.Judge.{checkRoom, checkPress, checkNode, turn, judge};
+ghost use Rattle.press_spec.specs.Judge.{sizes, checkRoom, checkPress, checkNode, turn, judge};
 ghost use Rattle.press_judge.specs.Turns.{turnSays, turnStores};
 ghost use Rattle.press_nodes.specs.Tables.{clauseWords, nodesIn};
 ghost use Rattle.press_judge.specs.Turns.{judgedIn};
@@ -21,6 +21,9 @@ use sheet::Reason;
 use sheet::Record;
 use sheet::RecordNo;
 use sheet::Verdict;
+use sheet::limits::LINE_BYTES;
+use sheet::limits::PRESS_RECORDS;
+use sheet::limits::RECORD_BYTES;
 
 // Every record is as it should be; or the first that is not, and why.
 pub enum Judgement {
@@ -29,27 +32,27 @@ pub enum Judgement {
 }
 
 // 5: room for output under 48N-24 bytes, or marks shorter than the number of rule lines.
-fn check_room(records: usize, lines: usize, room: usize, marks: usize) -> Verdict
-    requires { ⌜ (1 ≤ records) × (records ≤ 512) ⌝ }
-    ensures { λ v. ⌜ v ≡ checkRoom narrow records lines room marks ⌝ }
+fn check_room(sheet: usize, rules: usize, out: usize, marks: usize) -> Verdict
+    requires { ⌜ (1 ≤ sheet / recordBytes narrow) × (sheet / recordBytes narrow ≤ pressRecords narrow) ⌝ }
+    ensures { λ v. ⌜ v ≡ checkRoom narrow (sizes sheet rules out marks) ⌝ }
 {
-    if sheet::limits::RECORD_BYTES * (2 * records - 1) <= room && lines <= marks {
+    let records = sheet / RECORD_BYTES;
+    let lines = rules / LINE_BYTES;
+    if RECORD_BYTES * (2 * records - 1) <= out && lines <= marks {
         return Verdict::Fine;
     }
     Verdict::Refused(Reason::Room)
 }
 
 // 1 to 5, of the lengths alone.
-pub fn judge_lengths(sheet: usize, rules: usize, room: usize, marks: usize) -> Verdict
-    ensures { λ v. ⌜ v ≡ checkPress narrow sheet rules room marks ⌝ }
+pub fn judge_lengths(sheet: usize, rules: usize, out: usize, marks: usize) -> Verdict
+    ensures { λ v. ⌜ v ≡ checkPress narrow (sizes sheet rules out marks) ⌝ }
 {
-    let verdict = sheet_checks::check_lengths(sheet::limits::PRESS_RECORDS, sheet, rules);
+    let verdict = sheet_checks::check_lengths(PRESS_RECORDS, sheet, rules);
     let Verdict::Fine = verdict else {
         return verdict;
     };
-    let records = sheet / sheet::limits::RECORD_BYTES;
-    let lines = rules / sheet::limits::LINE_BYTES;
-    check_room(records, lines, room, marks)
+    check_room(sheet, rules, out, marks)
 }
 
 // 9, 11 and 12, of a step after `next` nodes.
@@ -128,8 +131,8 @@ pub fn judge(sheet: &[u8], rules: &[u8], links: &mut [u64], clauses: &mut [u64])
     let count = links.len();
     let mut k: u16 = 0;
     while base::wide(k) < count {
-        let at = sheet::limits::RECORD_BYTES * base::wide(k);
-        let end = at + sheet::limits::RECORD_BYTES;
+        let at = RECORD_BYTES * base::wide(k);
+        let end = at + RECORD_BYTES;
         let verdict = judge_turn(&sheet[at..end], rules, links, clauses, NodeNo(k));
         match verdict {
             Verdict::Fine => {}

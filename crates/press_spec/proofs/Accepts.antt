@@ -8,7 +8,6 @@ use lib.Dec.{leb}
 use lib.ListN.{length, take, replicate, length-map, List·getD-map}
 use lib.Seq.{length-take-le, take-length, getD-take}
 use borrow.Author.Tests.{leb-true, le-leb}
-use Rattle.clause.specs.Clauses.{Literals}
 use Rattle.sheet.specs.declared.Reason.the-variants.{Room}
 use Rattle.sheet.specs.declared.Verdict.{Verdict}
 use Rattle.sheet.specs.declared.Verdict.the-variants.{Fine, Refused}
@@ -21,10 +20,10 @@ use Rattle.sheet.specs.Proper.{recordIn, clauseIn, Held, ProperAfter, ReadsAs, 
 use Rattle.sheet.proofs.Reasons.{unless-fine, fine-unless, andThen-fine, fine-andThen}
 use Rattle.sheet.proofs.RecordBytes.{PivotBelow, reads-pivot, reading-known}
 use Rattle.sheet.proofs.Fine.{Lengths, lengths-fine, fine-lengths}
-use Rattle.press_spec.specs.Judge.{checkRoom, checkPress, Judged, proper, bad, judge}
+use Rattle.press_spec.specs.Judge.{Sizes, checkRoom, checkPress, Judged, proper, bad, judge}
 use Rattle.press_spec.specs.Links.{links}
 use Rattle.press_spec.specs.Drops.{withDrops, markLines, total}
-use Rattle.press_spec.specs.Press.{pressed, Outcome, accepted, conclusion, emit, emitted, byJudging, byLengths, press}
+use Rattle.press_spec.specs.Press.{pressed, Call, sizesOf, Report, Outcome, accepted, conclusion, core, report, emit, refuse, byJudging, byLengths, press}
 use Rattle.press_spec.proofs.Proper.{ProperNode, AllProper, Kept}
 use Rattle.press_spec.proofs.Judged.{AllRead, judged-proper, judge-of}
 use Rattle.press_spec.proofs.Kept.{pressed-kept}
@@ -91,100 +90,102 @@ last-held s some =
 
 -- ---- checks 1 to 5
 
--- n records, with room for the output and a mark for each rule line
-abbrev pub Roomy : Edition → ℕ → ℕ → ℕ → ℕ → Type 0
-Roomy e n lines room marks = (recordBytes e * (2 * n - 1) ≤ room) × (lines ≤ marks)
+-- room for the output of n records, and a mark for each rule line
+abbrev pub Roomy : Edition → ℕ → Sizes → Type 0
+Roomy e n z = (recordBytes e * (2 * n - 1) ≤ z .out) × (z .rules / lineBytes e ≤ z .marks)
 
-abbrev pub Sizes : Edition → ℕ → ℕ → ℕ → ℕ → ℕ → Type 0
-Sizes e sheet rules room marks n = Lengths e (pressRecords e) sheet rules n × Roomy e n (rules / lineBytes e) room marks
+-- what has these lengths can be pressed, if its n records are proper
+abbrev pub Enough : Edition → Sizes → ℕ → Type 0
+Enough e z n = Lengths e (pressRecords e) (z .sheet) (z .rules) n × Roomy e n z
 
 record-count : (e : Edition) (sheet n : ℕ) → sheet ≡ recordBytes e * n → sheet / recordBytes e ≡ n
 record-count narrow sheet n q = omega arith
 
-pub press-fine : (e : Edition) (sheet rules room marks : ℕ) → checkPress e sheet rules room marks ≡ Fine
-    → Sizes e sheet rules room marks (sheet / recordBytes e)
+pub press-fine : (e : Edition) (z : Sizes) → checkPress e z ≡ Fine → Enough e z (z .sheet / recordBytes e)
 unfolding checkPress checkRoom
-press-fine e sheet rules room marks q =
-    let n = sheet / recordBytes e in
+press-fine e z q =
+    let n = z .sheet / recordBytes e in
     let y = andThen-fine _ _ q in
-    let z = and-eq-true-iff (leb (recordBytes e * (2 * n - 1)) room) (leb (rules / lineBytes e) marks) .0 (unless-fine _ Room Fine (y .1) .0) in
-    (lengths-fine e (pressRecords e) sheet rules (y .0), (leb-true _ room (z .0), leb-true _ marks (z .1)))
+    let w = and-eq-true-iff (leb (recordBytes e * (2 * n - 1)) (z .out)) (leb (z .rules / lineBytes e) (z .marks)) .0 (unless-fine _ Room Fine (y .1) .0) in
+    (lengths-fine e (pressRecords e) (z .sheet) (z .rules) (y .0), (leb-true _ (z .out) (w .0), leb-true _ (z .marks) (w .1)))
 
-fine-press : (e : Edition) (sheet rules room marks n : ℕ) → Sizes e sheet rules room marks n → checkPress e sheet rules room marks ≡ Fine
+fine-press : (e : Edition) (z : Sizes) (n : ℕ) → Enough e z n → checkPress e z ≡ Fine
 unfolding checkPress checkRoom
-fine-press e sheet rules room marks n (l, (r, m)) =
-    fine-andThen _ _ (fine-lengths e (pressRecords e) sheet rules n l)
-    (rw (record-count e sheet n (l .0)) (fine-unless _ Room Fine (ap₂ _&&_ (le-leb _ room r) (le-leb _ marks m)) refl))
+fine-press e z n (l, (r, m)) =
+    fine-andThen _ _ (fine-lengths e (pressRecords e) (z .sheet) (z .rules) n l)
+    (rw (record-count e (z .sheet) n (l .0)) (fine-unless _ Room Fine (ap₂ _&&_ (le-leb _ (z .out) r) (le-leb _ (z .marks) m)) refl))
 
 -- ---- the press
 
-module _ (e : Edition) (sheet rules out marks : List ℕ) where
-  abbrev checked : Verdict
-  checked = checkPress e (length sheet) (length rules) (length out) (length marks)
+module _ (e : Edition) (c : Call) where
+  abbrev sheet : List ℕ
+  sheet = c .sheet
 
-  press-is : (s : List Node) → checked ≡ Fine → judge e rules sheet ≡ proper s
-      → press e sheet rules out marks ≡ emit e (ruleLines e rules) (pressed s) out marks
+  abbrev rules : List ℕ
+  rules = c .rules
+
+  abbrev checked : Verdict
+  checked = checkPress e (sizesOf c)
+
+  press-is : (s : List Node) → checked ≡ Fine → judge e rules sheet ≡ proper s → press e c ≡ emit e c (pressed s)
   unfolding press byLengths byJudging
   press-is s f j = rw (f, j)
 
   -- every answer but a refusal comes from a sheet that passes 1 to 5 and is judged proper
-  judged-accepted : (c : Literals) (records nodes steps peak marked : ℕ)
-      → press e sheet rules out marks .answer ≡ accepted c records nodes steps peak marked
-      → (checked ≡ Fine) × (s : List Node) × (judge e rules sheet ≡ proper s)
-  unfolding press byLengths byJudging
-  judged-accepted c records nodes steps peak marked = by-lengths checked refl
+  judged-accepted : (r : Report) → press e c .answer ≡ accepted r → (checked ≡ Fine) × (s : List Node) × (judge e rules sheet ≡ proper s)
+  unfolding press byLengths byJudging refuse
+  judged-accepted r = by-lengths checked refl
     where
-      by-judging : (j : Judged) → judge e rules sheet ≡ j
-          → byJudging e (ruleLines e rules) j out marks .answer ≡ accepted c records nodes steps peak marked
+      by-judging : (j : Judged) → judge e rules sheet ≡ j → byJudging e c j .answer ≡ accepted r
           → (s : List Node) × (judge e rules sheet ≡ proper s)
       by-judging (proper s) q a = (s, q)
       by-judging (bad why k) q a = let z : _≡_ {A = ℕ} 0 1 = cc in absurd (omega arith)
 
-      by-lengths : (v : Verdict) → checked ≡ v → byLengths e sheet rules out marks v .answer ≡ accepted c records nodes steps peak marked
+      by-lengths : (v : Verdict) → checked ≡ v → byLengths e c v .answer ≡ accepted r
           → (checked ≡ Fine) × (s : List Node) × (judge e rules sheet ≡ proper s)
       by-lengths Fine q a = let (s, j) = by-judging (judge e rules sheet) refl a in (q, s, j)
       by-lengths (Refused why) q a = let z : _≡_ {A = ℕ} 0 1 = cc in absurd (omega arith)
 
-  -- what an accepted press has read, done and said
-  pub record Says (c : Literals) (records nodes steps peak marked : ℕ) : Type 0 where
+  -- what an accepted press has read, done and reported
+  pub record Says (r : Report) : Type 0 where
     pub input : List Node
-    pub sizes : Sizes e (length sheet) (length rules) (length out) (length marks) (length input)
+    pub enough : Enough e (sizesOf c) (length input)
     pub read : ReadsAs e false sheet (map node input)
     pub each : AllProper e rules input
     pub kept : Kept e rules input (pressed input)
-    pub does : press e sheet rules out marks ≡ emit e (ruleLines e rules) (pressed input) out marks
-    pub concludes : c ≡ conclusion (pressed input)
-    pub recorded : records ≡ length (withDrops (pressed input))
-    pub counts : nodes ≡ length (pressed input)
-    pub takes : steps ≡ stepsOf (pressed input)
-    pub peaks : peak ≡ peakFrom 0 (withDrops (pressed input))
-    pub totals : marked ≡ total (markLines (links (pressed input)) (replicate (ruleLines e rules) 0))
+    pub does : press e c ≡ emit e c (pressed input)
+    pub concludes : r .conclusion ≡ conclusion (pressed input)
+    pub recorded : r .records ≡ length (withDrops (pressed input))
+    pub counts : r .nodes ≡ length (pressed input)
+    pub takes : r .steps ≡ stepsOf (pressed input)
+    pub peaks : r .peak ≡ peakFrom 0 (withDrops (pressed input))
+    pub totals : r .marked ≡ total (markLines (links (pressed input)) (replicate (ruleLines e rules) 0))
 
-  pub accepted-says : (c : Literals) (records nodes steps peak marked : ℕ)
-      → press e sheet rules out marks .answer ≡ accepted c records nodes steps peak marked → Says c records nodes steps peak marked
-  unfolding emit emitted
-  accepted-says c records nodes steps peak marked a =
-      let (fine, s, j) = judged-accepted c records nodes steps peak marked a in
+  pub accepted-says : (r : Report) → press e c .answer ≡ accepted r → Says r
+  unfolding emit report core
+  accepted-says r a =
+      let (fine, s, j) = judged-accepted r a in
       let (each, long, read) = judged-proper e rules sheet s j in
-      let sizes = rw (← long) at (press-fine e (length sheet) (length rules) (length out) (length marks) fine) in
+      let enough = rw (← long) at (press-fine e (sizesOf c) fine) in
       let does = press-is s fine j in
       let said = sym (ap (λ (o : Outcome). o .answer) does) ∙ a in
+      let same : r ≡ report (ruleLines e rules) (pressed s) = cc in
       record {
         input = s;
-        sizes = sizes;
+        enough = enough;
         read = record {
-          size = rw (length-map s node) (sizes .0 .0);
+          size = rw (length-map s node) (enough .0 .0);
           each = λ k h. rw (record-alone s k) (read k (rw (length-map s node) at h));
         };
         each = each;
-        kept = pressed-kept e rules s each (sizes .0 .1);
+        kept = pressed-kept e rules s each (enough .0 .1);
         does = does;
-        concludes = cc;
-        recorded = cc;
-        counts = cc;
-        takes = cc;
-        peaks = cc;
-        totals = cc;
+        concludes = ap (λ (x : Report). x .conclusion) same;
+        recorded = ap (λ (x : Report). x .records) same;
+        counts = ap (λ (x : Report). x .nodes) same;
+        takes = ap (λ (x : Report). x .steps) same;
+        peaks = ap (λ (x : Report). x .peak) same;
+        totals = ap (λ (x : Report). x .marked) same;
       }
 
   -- ---- a proper sheet
@@ -198,40 +199,33 @@ module _ (e : Edition) (sheet rules out marks : List ℕ) where
       (rw (record-alone s n) at (p .each n (rw long h))))
       read (record-count e (length sheet) (length s) (rw long at (p .read .size)))
 
-  pub proper-accepted : (rs : List Record) → Proper e (pressRecords e) false rules sheet rs
-      → Roomy e (length rs) (ruleLines e rules) (length out) (length marks)
-      → (c : Literals) × (records : ℕ) × (nodes : ℕ) × (steps : ℕ) × (peak : ℕ) × (marked : ℕ)
-      × (press e sheet rules out marks .answer ≡ accepted c records nodes steps peak marked)
-  unfolding ruleLines emit emitted
+  pub proper-accepted : (rs : List Record) → Proper e (pressRecords e) false rules sheet rs → Roomy e (length rs) (sizesOf c)
+      → (r : Report) × (press e c .answer ≡ accepted r)
+  unfolding emit
   proper-accepted rs p roomy =
       let same = reads-nodes e sheet rs (p .read) in
       let does = press-is (nodesOf rs)
-      (fine-press e (length sheet) (length rules) (length out) (length marks) (length rs)
-      ((p .read .size, p .some, p .few, p .lines), roomy))
-      (judge-proper (nodesOf rs) (rw same at p)) in
-      (_, _, _, _, _, _, ap (λ (o : Outcome). o .answer) does)
+      (fine-press e (sizesOf c) (length rs) ((p .read .size, p .some, p .few, p .lines), roomy)) (judge-proper (nodesOf rs) (rw same at p)) in
+      (_, ap (λ (o : Outcome). o .answer) does)
 
   -- ---- what is accepted is proper
 
-  pub accepted-proper : (c : Literals) (records nodes steps peak marked : ℕ)
-      → press e sheet rules out marks .answer ≡ accepted c records nodes steps peak marked
-      → (rs : List Record) × Proper e (pressRecords e) false rules sheet rs
-      × Roomy e (length rs) (ruleLines e rules) (length out) (length marks)
-  unfolding ruleLines
-  accepted-proper c records nodes steps peak marked a =
-      let y = accepted-says c records nodes steps peak marked a in
+  pub accepted-proper : (r : Report) → press e c .answer ≡ accepted r
+      → (rs : List Record) × Proper e (pressRecords e) false rules sheet rs × Roomy e (length rs) (sizesOf c)
+  accepted-proper r a =
+      let y = accepted-says r a in
       let s = y .input in
       let long = length-map s node in (
         map node s,
         record {
           read = y .read;
-          some = rw long (y .sizes .0 .1);
-          few = rw long (y .sizes .0 .2);
-          lines = y .sizes .0 .3;
+          some = rw long (y .enough .0 .1);
+          few = rw long (y .enough .0 .2);
+          lines = y .enough .0 .3;
           each = λ k h.
               let i : k < length s = rw long at h in
               rw (record-alone s k) (proper-after s k (omega arith) e rules (nodeAt s k) (y .each k i));
-          ends = last-held s (y .sizes .0 .1);
+          ends = last-held s (y .enough .0 .1);
         },
-        rw long (y .sizes .1),
+        rw long (y .enough .1),
       )

@@ -4,15 +4,16 @@ use mathlib.Core.List.{List}
 use lib.ListN.{length, replicate}
 use Rattle.base.specs.Bytes.{put}
 use Rattle.clause.specs.Clauses.{Literals, none}
+use Rattle.sheet.specs.declared.Reason.{Reason}
 use Rattle.sheet.specs.declared.Verdict.{Verdict}
 use Rattle.sheet.specs.declared.Verdict.the-variants.{Fine, Refused}
 use Rattle.sheet.specs.Editions.{Edition}
 use Rattle.sheet.specs.Reasons.{numberOf}
-use Rattle.sheet.specs.Records.{Node, Record, clause, nodeAt}
+use Rattle.sheet.specs.Records.{Node, clause, nodeAt}
 use Rattle.sheet.specs.Fields.{sheetBytes, ruleLines}
 use Rattle.sheet.specs.Counts.{stepsOf, peakFrom}
 use Rattle.press_spec.specs.Links.{links, sink}
-use Rattle.press_spec.specs.Judge.{checkPress, Judged, proper, bad, judge}
+use Rattle.press_spec.specs.Judge.{Sizes, sizes, checkPress, Judged, proper, bad, judge}
 use Rattle.press_spec.specs.Trim.{usesFrom}
 use Rattle.press_spec.specs.Recycle.{Fit, reset, recycle, fates}
 use Rattle.press_spec.specs.Rebuild.{Built, standIn, rebuild}
@@ -31,10 +32,32 @@ arranged b n = laid (b .nodes) (orderFrom (links (b .nodes)) (standIn b n))
 unfoldable pub pressed : List Node → List Node
 pressed s = arranged (recycled (reset (usesFrom (links s) (sink s))) none s) (sink s)
 
--- a result has conclusion, record count, node count, step count, peak and number of marked lines
+-- what a press is lent
+pub record Call : Type 0 where
+  pub sheet : List ℕ
+  pub rules : List ℕ
+  pub out : List ℕ
+  pub marks : List ℕ
+
+abbrev pub call : List ℕ → List ℕ → List ℕ → List ℕ → Call
+call sheet rules out marks = record { sheet = sheet; rules = rules; out = out; marks = marks }
+
+abbrev pub sizesOf : Call → Sizes
+sizesOf c = sizes (length (c .sheet)) (length (c .rules)) (length (c .out)) (length (c .marks))
+
+-- "An accepted press returns conclusion, record count, node count, step count (resolution records), peak and number of marked
+-- lines."
+pub record Report : Type 0 where
+  pub conclusion : Literals
+  pub records : ℕ
+  pub nodes : ℕ
+  pub steps : ℕ
+  pub peak : ℕ
+  pub marked : ℕ
+
 pub data Answer : Type 0 where
   refused : ℕ → ℕ → Answer
-  accepted : Literals → ℕ → ℕ → ℕ → ℕ → ℕ → Answer
+  accepted : Report → Answer
 
 pub record Outcome : Type 0 where
   pub answer : Answer
@@ -47,23 +70,37 @@ outcome a out marks = record { answer = a; out = out; marks = marks }
 unfoldable pub conclusion : List Node → Literals
 conclusion s = clause (nodeAt s (sink s))
 
--- "Output beyond the records is untouched. Marks hold 1 or 0 for each rule line; bytes beyond are untouched."
-unfoldable pub emitted : Edition → List Node → List Record → List ℕ → List ℕ → List ℕ → Outcome
-emitted e s records core out marks =
-    outcome (accepted (conclusion s) (length records) (length s) (stepsOf s) (peakFrom 0 records) (total core)) (put out 0 (sheetBytes e records))
-    (put marks 0 core)
+-- the core of a table of so many lines, a mark for each
+unfoldable pub core : ℕ → List Node → List ℕ
+core lines s = markLines (links s) (replicate lines 0)
 
-unfoldable pub emit : Edition → ℕ → List Node → List ℕ → List ℕ → Outcome
-emit e lines s out marks = emitted e s (withDrops s) (markLines (links s) (replicate lines 0)) out marks
+unfoldable pub report : ℕ → List Node → Report
+report lines s = record {
+  conclusion = conclusion s;
+  records = length (withDrops s);
+  nodes = length s;
+  steps = stepsOf s;
+  peak = peakFrom 0 (withDrops s);
+  marked = total (core lines s);
+}
+
+-- "Output beyond the records is untouched. Marks hold 1 or 0 for each rule line; bytes beyond are untouched."
+unfoldable pub emit : Edition → Call → List Node → Outcome
+emit e c s =
+    let lines = ruleLines e (c .rules) in
+    outcome (accepted (report lines s)) (put (c .out) 0 (sheetBytes e (withDrops s))) (put (c .marks) 0 (core lines s))
 
 -- "A refused press changes neither output nor marks."
-unfoldable pub byJudging : Edition → ℕ → Judged → List ℕ → List ℕ → Outcome
-byJudging e lines (proper s) out marks = emit e lines (pressed s) out marks
-byJudging e lines (bad why k) out marks = outcome (refused (numberOf why) k) out marks
+unfoldable pub refuse : Call → Reason → ℕ → Outcome
+refuse c why k = outcome (refused (numberOf why) k) (c .out) (c .marks)
 
-unfoldable pub byLengths : Edition → List ℕ → List ℕ → List ℕ → List ℕ → Verdict → Outcome
-byLengths e sheet rules out marks Fine = byJudging e (ruleLines e rules) (judge e rules sheet) out marks
-byLengths e sheet rules out marks (Refused why) = outcome (refused (numberOf why) 0) out marks
+unfoldable pub byJudging : Edition → Call → Judged → Outcome
+byJudging e c (proper s) = emit e c (pressed s)
+byJudging e c (bad why k) = refuse c why k
 
-unfoldable pub press : Edition → List ℕ → List ℕ → List ℕ → List ℕ → Outcome
-press e sheet rules out marks = byLengths e sheet rules out marks (checkPress e (length sheet) (length rules) (length out) (length marks))
+unfoldable pub byLengths : Edition → Call → Verdict → Outcome
+byLengths e c Fine = byJudging e c (judge e (c .rules) (c .sheet))
+byLengths e c (Refused why) = refuse c why 0
+
+unfoldable pub press : Edition → Call → Outcome
+press e c = byLengths e c (checkPress e (sizesOf c))

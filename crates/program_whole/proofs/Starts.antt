@@ -7,47 +7,46 @@ use lib.ListN.{length, take}
 use Rattle.sheet.specs.declared.Reason.{Reason}
 use Rattle.sheet.specs.declared.Verdict.{Verdict}
 use Rattle.sheet.specs.declared.Verdict.the-variants as W
-use Rattle.sheet.specs.Editions.{narrow}
-use Rattle.press_spec.specs.Judge.{checkPress}
-use Rattle.press_spec.specs.Press.{Outcome, outcome, accepted, pressed, press}
+use Rattle.sheet.specs.Editions.{narrow, recordBytes, lineBytes, pressRecords, tableLines}
+use Rattle.press_spec.specs.Judge.{Sizes, sizes, checkPress}
+use Rattle.press_spec.specs.Press.{Call, call, Outcome, outcome, accepted, pressed, press}
 use Rattle.press_spec.proofs.Nodes.{proper-falling}
 use Rattle.press_spec.proofs.Drops.{length-withDrops-most}
-use Rattle.press_spec.proofs.Accepts.{Sizes, press-fine, accepted-says}
+use Rattle.press_spec.proofs.Accepts.{Enough, press-fine, accepted-says}
 use Rattle.press.specs.declared.Pressed.{Pressed}
 use Rattle.press.specs.declared.PressAnswer.{PressAnswer}
 use Rattle.press.specs.declared.PressAnswer.the-variants.{Accepted, Refused}
-use Rattle.press.specs.Said.{said}
+use Rattle.press.specs.Said.{reported, said}
 use Rattle.press.proofs.Ready.{press-refused}
 use Rattle.program_whole.specs.Whole.{Starts, Fits}
 
-module _ (sheet rules room marks : ℕ) (fine : checkPress narrow sheet rules room marks ≡ W.Fine) where
-  sizes : Sizes narrow sheet rules room marks (sheet / 24)
-  sizes = press-fine narrow sheet rules room marks fine
+module _ (z : Sizes) (fine : checkPress narrow z ≡ W.Fine) where
+  enough : Enough narrow z (z .sheet / recordBytes narrow)
+  enough = press-fine narrow z fine
 
-  pub sheet-short : sheet ≤ 12288
-  sheet-short = omega (arith, sizes .0 .0, sizes .0 .2)
+  pub sheet-short : z .sheet ≤ recordBytes narrow * pressRecords narrow
+  sheet-short = omega (arith, enough .0 .0, enough .0 .2)
 
-  pub rules-short : rules ≤ 16384
-  rules-short = omega (arith, sizes .0 .3 .0, sizes .0 .3 .1)
+  pub rules-short : z .rules ≤ lineBytes narrow * tableLines narrow
+  rules-short = omega (arith, enough .0 .3 .0, enough .0 .3 .1)
 
 pub whole-refused : (v : Verdict) (why : Reason) (m n : ℕ) (sheet rules out marks s t : List ℕ)
-    → v ≡ checkPress narrow m n (length out) (length marks) → v ≡ W.Refused why → Starts s m sheet → Starts t n rules
-    → outcome (said (Refused why (record { 0 = 0 }))) out marks ≡ press narrow s t out marks
-whole-refused v why m n sheet rules out marks s t q e a b = press-refused s t out marks v why (rw (a .0, b .0) q) e
+    → v ≡ checkPress narrow (sizes m n (length out) (length marks)) → v ≡ W.Refused why → Starts s m sheet → Starts t n rules
+    → outcome (said (Refused why (record { 0 = 0 }))) out marks ≡ press narrow (call s t out marks)
+whole-refused v why m n sheet rules out marks s t q e a b = press-refused (call s t out marks) v why (rw (a .0, b .0) q) e
 
 pub whole-pressed : (m n : ℕ) (sheet rules out marks s t : List ℕ) (o : Outcome) → m ≤ length sheet → n ≤ length rules
-    → Starts s m sheet → Starts t n rules → o ≡ press narrow (take m sheet) (take n rules) out marks → o ≡ press narrow s t out marks
+    → Starts s m sheet → Starts t n rules → o ≡ press narrow (call (take m sheet) (take n rules) out marks) → o ≡ press narrow (call s t out marks)
 whole-pressed m n sheet rules out marks s t o i j a b e = rw (a .1 i, b .1 j) e
 
-pub accepted-fits : (r : PressAnswer) (sheet rules out marks out′ marks′ : List ℕ)
-    → outcome (said r) out′ marks′ ≡ press narrow sheet rules out marks → Fits (length out) r
+pub accepted-fits : (r : PressAnswer) (c : Call) (out marks : List ℕ) → outcome (said r) out marks ≡ press narrow c → Fits (length (c .out)) r
 unfolding said
-accepted-fits (Accepted p) sheet rules out marks out′ marks′ e =
-    let y = accepted-says narrow sheet rules out marks _ _ _ _ _ _ (sym (ap (λ (o : Outcome). o .answer) e)) in
+accepted-fits (Accepted p) c out marks e =
+    let y = accepted-says narrow c (reported p) (sym (ap (λ (o : Outcome). o .answer) e)) in
     let s = pressed (y .input) in
-    let most = length-withDrops-most s (proper-falling narrow rules s (y .kept .proper)) in
-    omega (arith, y .recorded, most, y .kept .fits, y .kept .some, y .sizes .1 .0)
-accepted-fits (Refused why k) sheet rules out marks out′ marks′ e = tt
+    let most = length-withDrops-most s (proper-falling narrow (c .rules) s (y .kept .proper)) in
+    omega (arith, y .recorded, most, y .kept .fits, y .kept .some, y .enough .1 .0)
+accepted-fits (Refused why k) c out marks e = tt
 
-pub fits-bytes : (room : ℕ) (r : PressAnswer) (p : Pressed) → r ≡ Accepted p → Fits room r → 24 * p .records ≤ room
+pub fits-bytes : (room : ℕ) (r : PressAnswer) (p : Pressed) → r ≡ Accepted p → Fits room r → recordBytes narrow * p .records ≤ room
 fits-bytes room r p e f = rw e at f

@@ -3,9 +3,9 @@ ghost use mathlib.Core.Path.{_≡_};
 ghost use mathlib.Core.List.{List};
 ghost use Prim.Native.Nat.{ℕ, _*_, _≤_};
 ghost use lib.ListN.{length};
-ghost use Rattle.sheet.specs.Editions.{narrow};
+ghost use Rattle.sheet.specs.Editions.{narrow, recordBytes, lineBytes, pressRecords, tableLines};
 ghost use Rattle.press.specs.Said.{said};
-ghost use Rattle.press_spec.specs.Press.{outcome, press};
+ghost use Rattle.press_spec.specs.Press.{call, outcome, press};
 ghost use Rattle.program_whole.specs.Whole.{Starts, Fits};
 use press::PressAnswer;
 use press::Pressed;
@@ -21,8 +21,8 @@ pub fn press_whole(
     out: &mut [u8],
     marks: &mut [u8],
 ) -> PressAnswer
-    requires { ⌜ (12288 ≤ length (now sheet)) × (16384 ≤ length (now rules)) ⌝ }
-    ensures whole { λ r. ⌜ ((s t : List ℕ) → Starts s «sheet_length» (now (sheet .entry)) → Starts t «rules_length» (now (rules .entry)) → outcome (said r) (now (out .exit)) (now (marks .exit)) ≡ press narrow s t (now (out .entry)) (now (marks .entry))) ⌝ }
+    requires { ⌜ (recordBytes narrow * pressRecords narrow ≤ length (now sheet)) × (lineBytes narrow * tableLines narrow ≤ length (now rules)) ⌝ }
+    ensures whole { λ r. ⌜ ((s t : List ℕ) → Starts s «sheet_length» (now (sheet .entry)) → Starts t «rules_length» (now (rules .entry)) → outcome (said r) (now (out .exit)) (now (marks .exit)) ≡ press narrow (call s t (now (out .entry)) (now (marks .entry)))) ⌝ }
     ensures fits { λ r. ⌜ Fits (length (now (out .entry))) r ⌝ }
 {
     let verdict = press_judge::judge_lengths(sheet_length, rules_length, out.len(), marks.len());
@@ -35,7 +35,7 @@ pub fn press_whole(
 
 // How much of the output is the pressed sheet.
 pub fn record_bytes(pressed: Pressed) -> usize
-    ensures { λ r. ⌜ r ≡ 24 * pressed .records ⌝ }
+    ensures { λ r. ⌜ r ≡ recordBytes narrow * pressed .records ⌝ }
 {
     sheet::limits::RECORD_BYTES * base::wide(pressed.records)
 }

@@ -6,12 +6,13 @@ use native.Mathlib.Omega.{arith}
 use lib.ListN.{length, take, replicate}
 use Rattle.sheet.specs.declared.Reason.{Reason}
 use Rattle.sheet.specs.declared.RecordNo.{RecordNo}
-use Rattle.sheet.specs.Editions.{narrow}
+use Rattle.sheet.specs.Editions.{narrow, recordBytes}
 use Rattle.replay_spec.specs.Slots.{empty}
 use Rattle.replay_spec.specs.Replay as Replay
 use Rattle.replay_answer.specs.declared.ReplayAnswer.{ReplayAnswer}
 use Rattle.replay_answer.specs.Answers as ReplaySaid
 use Rattle.press_spec.specs.Press as Press
+use Rattle.press_spec.specs.Press.{Call}
 use Rattle.press_spec.proofs.Nodes.{proper-falling}
 use Rattle.press_spec.proofs.Drops.{length-withDrops-most}
 use Rattle.press_spec.proofs.Accepts.{accepted-says}
@@ -23,24 +24,22 @@ use Rattle.demands.specs.Shipping.{tryOut, ship}
 use Rattle.ship.specs.declared.Shipment.the-variants as S
 use Rattle.ship.specs.Said.{saidOfShipment}
 
-module _ (sheet rules out marks : List ℕ) (a : PressAnswer) (out′ marks′ : List ℕ)
-    (does : Press.outcome (PressSaid.said a) out′ marks′ ≡ Press.press narrow sheet rules out marks) where
-  pub ships-refused : (why : Reason) (k : RecordNo) (slots : ℕ) → a ≡ A.Refused why k
-      → saidOfShipment (S.Refused why k) ≡ ship narrow sheet rules out marks slots
+module _ (c : Call) (a : PressAnswer) (out marks : List ℕ) (does : Press.outcome (PressSaid.said a) out marks ≡ Press.press narrow c) where
+  pub ships-refused : (why : Reason) (k : RecordNo) (slots : ℕ) → a ≡ A.Refused why k → saidOfShipment (S.Refused why k) ≡ ship narrow c slots
   unfolding ship tryOut saidOfShipment PressSaid.said
   ships-refused why k slots q = rw (← does, q)
 
-  pub ships-tried : (p : Pressed) (r : ReplayAnswer) (slots end : ℕ) → a ≡ A.Accepted p → end ≡ 24 * p .records
-      → ReplaySaid.said r ≡ Replay.replay narrow (take end out′) rules (replicate slots empty) .answer
-      → saidOfShipment (S.Tried p r) ≡ ship narrow sheet rules out marks slots
+  pub ships-tried : (p : Pressed) (r : ReplayAnswer) (slots end : ℕ) → a ≡ A.Accepted p → end ≡ recordBytes narrow * p .records
+      → ReplaySaid.said r ≡ Replay.replay narrow (take end out) (c .rules) (replicate slots empty) .answer
+      → saidOfShipment (S.Tried p r) ≡ ship narrow c slots
   unfolding ship tryOut saidOfShipment PressSaid.said
-  ships-tried p r slots end q e s = rw (← does, q, ← e, s)
+  ships-tried p r slots end q e s = rw (← does, q, ← does, ← e, s)
 
-  pub written-fits : (p : Pressed) → a ≡ A.Accepted p → length out′ ≡ length out → 24 * p .records ≤ length out′
+  pub written-fits : (p : Pressed) → a ≡ A.Accepted p → length out ≡ length (c .out) → recordBytes narrow * p .records ≤ length out
   unfolding PressSaid.said
   written-fits p q long =
-      let answered : Press.press narrow sheet rules out marks .answer ≡ PressSaid.reported p = ap (λ (o : Press.Outcome). o .answer) (sym does) ∙ ap PressSaid.said q in
-      let says = accepted-says narrow sheet rules out marks _ _ _ _ _ _ answered in
+      let answered : Press.press narrow c .answer ≡ Press.accepted (PressSaid.reported p) = ap (λ (o : Press.Outcome). o .answer) (sym does) ∙ ap PressSaid.said q in
+      let says = accepted-says narrow c (PressSaid.reported p) answered in
       let kept = says .kept in
-      let most = length-withDrops-most (Press.pressed (says .input)) (proper-falling narrow rules (Press.pressed (says .input)) (kept .proper)) in
-      omega (arith, most, says .recorded, kept .fits, says .sizes .1 .0, long)
+      let most = length-withDrops-most (Press.pressed (says .input)) (proper-falling narrow (c .rules) (Press.pressed (says .input)) (kept .proper)) in
+      omega (arith, most, says .recorded, kept .fits, says .enough .1 .0, long)

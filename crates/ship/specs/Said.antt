@@ -1,6 +1,7 @@
 -- What the answer of the press and the replay together says.
 use Rattle.sheet.specs.Reasons.{numberOf}
 use Rattle.replay_answer.specs.Answers as ReplaySaid
+use Rattle.press_spec.specs.Press.{accepted}
 use Rattle.press.specs.Said as PressSaid
 use Rattle.demands.specs.Shipping.{Shipped, unpressed, tried}
 use Rattle.ship.specs.declared.Shipment.{Shipment}
@@ -8,4 +9,4 @@ use Rattle.ship.specs.declared.Shipment.the-variants as S
 
 unfoldable pub saidOfShipment : Shipment → Shipped
 saidOfShipment (S.Refused why k) = unpressed (numberOf why) (k .0)
-saidOfShipment (S.Tried p r) = tried (PressSaid.reported p) (ReplaySaid.said r)
+saidOfShipment (S.Tried p r) = tried (accepted (PressSaid.reported p)) (ReplaySaid.said r)

@@ -1,7 +1,7 @@
 // The press and the replay tied together.
 ghost use mathlib.Core.Path.{_≡_};
 ghost use Rattle.sheet.specs.Editions.{narrow};
-ghost use Rattle.press_spec.specs.Press.{press};
+ghost use Rattle.press_spec.specs.Press.{call, press};
 ghost use Rattle.demands.specs.Shipping.{ship};
 ghost use Rattle.ship.specs.Said.{saidOfShipment};
 use press::PressAnswer;
@@ -24,9 +24,9 @@ pub fn press_and_replay(
     marks: &mut [u8],
     slots: usize,
 ) -> Shipment
-    ensures answer { λ r. ⌜ saidOfShipment r ≡ ship narrow (now (sheet .entry)) (now (rules .entry)) (now (out .entry)) (now (marks .entry)) slots ⌝ }
-    ensures out { λ r. ⌜ now (out .exit) ≡ press narrow (now (sheet .entry)) (now (rules .entry)) (now (out .entry)) (now (marks .entry)) .out ⌝ }
-    ensures marks { λ r. ⌜ now (marks .exit) ≡ press narrow (now (sheet .entry)) (now (rules .entry)) (now (out .entry)) (now (marks .entry)) .marks ⌝ }
+    ensures answer { λ r. ⌜ saidOfShipment r ≡ ship narrow (call (now (sheet .entry)) (now (rules .entry)) (now (out .entry)) (now (marks .entry))) slots ⌝ }
+    ensures out { λ r. ⌜ now (out .exit) ≡ press narrow (call (now (sheet .entry)) (now (rules .entry)) (now (out .entry)) (now (marks .entry))) .out ⌝ }
+    ensures marks { λ r. ⌜ now (marks .exit) ≡ press narrow (call (now (sheet .entry)) (now (rules .entry)) (now (out .entry)) (now (marks .entry))) .marks ⌝ }
 {
     let answer = press::press(sheet, rules, out, marks);
     match answer {

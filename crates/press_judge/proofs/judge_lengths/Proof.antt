@@ -1,5 +1,5 @@
 use mathlib.Core.Path.{sym, _∙_}
-use Rattle.sheet.specs.Editions.{narrow}
+use Rattle.sheet.specs.Editions.{narrow, pressRecords}
 use Rattle.sheet.specs.Reasons.{andThen}
 use Rattle.sheet.proofs.Fine.{lengths-fine}
 use Rattle.press_spec.specs.Judge.{checkPress}
@@ -21,7 +21,7 @@ unfolding checkPress andThen
 returns c = simp (← c .before .before .check-lengths .ensures, c .enum-told2 .given .1)
 
 check-room-requires : tie.Need-check-room-requires
-check-room-requires c κs = let l = lengths-fine narrow 512 _ _ (sym (c .before .before .check-lengths .ensures) ∙ c .enum-told .given .1) in (l .1, l .2)
+check-room-requires c κs = let l = lengths-fine narrow (pressRecords narrow) _ _ (sym (c .before .before .check-lengths .ensures) ∙ c .enum-told .given .1) in (l .1, l .2)
 
 returns-2 : tie.Need-returns-2
 unfolding checkPress andThen

@@ -2,6 +2,7 @@ use mathlib.Core.Path.{sym, ap}
 use Prim.Native.Nat.{ℕ, _*_}
 use native.Mathlib.Omega.{arith}
 use lib.Seq.{length-take-le}
+use Rattle.sheet.specs.Editions.{narrow, recordBytes}
 use Rattle.press_spec.specs.Press.{Outcome}
 use Rattle.ship.proofs.Shipments.{ships-refused, ships-tried, written-fits}
 use borrow.Author.Needs.{needs}
@@ -25,12 +26,12 @@ mul-end c = search needs
 
 slice-reshare-prefix-replay-in : tie.Need-slice-reshare-prefix-replay-in
 slice-reshare-prefix-replay-in c = let o = c .before .before .before .before .before .before .before .before .press in
-    let fits = written-fits _ _ _ _ _ _ _ (o .ensures) _ (c .before .before .answer2 .given .1) (o .kept .1 .1 .0) in
+    let fits = written-fits _ _ _ _ (o .ensures) _ (c .before .before .answer2 .given .1) (o .kept .1 .1 .0) in
     omega (arith, fits, c .wide .ensures)
 
 slice-aggregate-replay-in : tie.Need-slice-aggregate-replay-in
 slice-aggregate-replay-in c = let o = c .before .before .before .before .before .before .before .before .before .press in
-    let fits = written-fits _ _ _ _ _ _ _ (o .ensures) _ (c .before .before .before .answer2 .given .1) (o .kept .1 .1 .0) in
+    let fits = written-fits _ _ _ _ (o .ensures) _ (c .before .before .before .answer2 .given .1) (o .kept .1 .1 .0) in
     sym (length-take-le _ _ (omega (arith, fits, c .before .wide .ensures)))
 
 replay-in-requires : tie.Need-replay-in-requires
@@ -44,7 +45,7 @@ same-length-2 c = search needs
 
 returns : tie.Need-returns
 returns c = let o = c .before .before .before .before .before .before .before .press .ensures in
-    (ships-refused _ _ _ _ _ _ _ o _ _ _ (c .before .answer .given .1), (ap (λ (x : Outcome). x .out) o, ap (λ (x : Outcome). x .marks) o))
+    (ships-refused _ _ _ _ o _ _ _ (c .before .answer .given .1), (ap (λ (x : Outcome). x .out) o, ap (λ (x : Outcome). x .marks) o))
 
 same-length-3 : tie.Need-same-length-3
 same-length-3 c = search needs
@@ -54,8 +55,8 @@ same-length-4 c = search needs
 
 returns-2 : tie.Need-returns-2
 returns-2 c = let o = c .before .before .before .before .before .before .before .before .before .before .press .ensures in
-    let end = ap (λ (n : ℕ). 24 * n) (c .before .before .wide .ensures) in
-    (ships-tried _ _ _ _ _ _ _ o _ _ _ _ (c .before .before .before .before .answer2 .given .1) end (c .replay-in .ensures), (ap (λ (x : Outcome). x .out) o, ap (λ (x : Outcome). x .marks) o))
+    let end = ap (λ (n : ℕ). recordBytes narrow * n) (c .before .before .wide .ensures) in
+    (ships-tried _ _ _ _ o _ _ _ _ (c .before .before .before .before .answer2 .given .1) end (c .replay-in .ensures), (ap (λ (x : Outcome). x .out) o, ap (λ (x : Outcome). x .marks) o))
 
 pub press-and-replay-spec : {M : Type 1} → statement M
 press-and-replay-spec =

@@ -6,8 +6,11 @@ use lib.ListN.{length, getD, take}
 use lib.Seq.{length-take-le}
 use Rattle.sheet.specs.Editions.{narrow}
 use Rattle.sheet.specs.Records.{Node}
+use Rattle.base.specs.Bytes.{put}
+use Rattle.sheet.specs.Fields.{sheetBytes}
+use Rattle.press_spec.specs.Drops.{withDrops}
 use Rattle.press_spec.specs.Order.{orderFrom, laid}
-use Rattle.press_spec.specs.Press.{pressed, emit}
+use Rattle.press_spec.specs.Press.{pressed, core, report}
 use Rattle.press_nodes.specs.Tables.{linksIn, clauseWords, nodesIn, Nodes}
 use Rattle.press_rebuild.proofs.Sounds.{rebuilt-nodes}
 use Rattle.press_marks.specs.Marking.{Emittable}
@@ -154,9 +157,15 @@ same-length-9 : tie.Need-same-length-9
 same-length-9 c = search needs
 
 returns : tie.Need-returns
-returns c = let st = c .before .before .before .before .before .before .before .before .before .before .before .before .before .before .before .before .before .before .before .before .before .before .before .before .before .before .before .before .before .before .before .before .before .before .before .before .before .before .before .before .before .before .before .before .before .before .before .before .before .before .before .before in
-    c .before .before .before .before .emit .ensures
-    ∙ ap (λ (s : List Node). emit narrow (st .args .lines) s (st .args .out .now) (st .args .marks .now)) (laid-out (c .before .before .before .before .before .before .before .before .before .before) _ (c .before .before .before .before .before .before .before .before .before .words-for .ensures) .1)
+returns c = let a = c .before .before .before .before .before .before .before .before .before .before .before .before .before .before .before .before .before .before .before .before .before .before .before .before .before .before .before .before .before .before .before .before .before .before .before .before .before .before .before .before .before .before .before .before .before .before .before .before .before .before .before .before .args in
+    let e = c .before .before .before .before .emit .ensures in
+    let same = laid-out (c .before .before .before .before .before .before .before .before .before .before) _ (c .before .before .before .before .before .before .before .before .before .words-for .ensures) .1 in (
+      e .0 ∙ ap (report (a .lines)) same,
+      (
+        e .1 .0 ∙ ap (λ (s : List Node). put (a .out .now) 0 (sheetBytes narrow (withDrops s))) same,
+        e .1 .1 ∙ ap (λ (s : List Node). put (a .marks .now) 0 (core (a .lines) s)) same,
+      ),
+    )
 
 pub run-passes-spec : {M : Type 1} → statement M
 run-passes-spec =
