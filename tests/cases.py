@@ -1,7 +1,8 @@
 """The cases of program.py."""
 import errno, os, struct, subprocess, threading, time
 
-from folders import FOLDER, PART, Link, can_fail, failing, file_limit, no_output
+from failures import Interrupts, can_fail, failing, file_limit, no_output
+from folders import FOLDER, PARTS, Link
 
 OLD = b"old" * 167  # 501 bytes, longer than what is written over it here
 
@@ -55,8 +56,7 @@ def pair_of(v):
 
 
 def files(sheet=PAIR, rules=RULES, **more):
-    named = {"rules.bin": rules, "sheet.bin": sheet, "pressed.bin": more.get("pressed"), PART: more.get("part")}
-    return {name: what for name, what in named.items() if what is not None}
+    return {"rules.bin": rules, "sheet.bin": sheet, **({"pressed.bin": more["pressed"]} if "pressed" in more else {})}
 
 
 # ---- what is pressed
@@ -81,29 +81,72 @@ def accepted(t):
     t.answers("an older, longer pressed.bin keeps no tail", files(pressed=OLD), PAIR_OK, PAIR_OUT)
     t.answers("an older, shorter pressed.bin", files(pressed=b"o"), PAIR_OK, PAIR_OUT)
     t.answers("a pressed.bin that can be written and not read", files(pressed=OLD), PAIR_OK, PAIR_OUT, modes=[("pressed.bin", 0o200)])
-    t.answers("a part left by an earlier run", files(part=OLD), PAIR_OK, PAIR_OUT)
-    t.answers("a part that cannot be written", files(part=OLD), PAIR_OK, PAIR_OUT, modes=[(PART, 0o444)])
-    t.answers("a part that leads nowhere", files(part=Link("nowhere/at/all")), PAIR_OK, PAIR_OUT)
     t.answers("a pressed.bin that leads nowhere", files(pressed=Link("nowhere/at/all")), PAIR_OK, PAIR_OUT)
     t.answers("rules.bin and sheet.bin can only be read", files(), PAIR_OK, PAIR_OUT, modes=[("rules.bin", 0o400), ("sheet.bin", 0o400)])
     linked(t)
+    named_like_a_part(t)
+    in_place(t)
     in_pieces(t)
+    interrupted(t)
     with t.folder(files()) as place:
         subprocess.run(t.words, cwd=place, preexec_fn=no_output, stderr=subprocess.DEVNULL)
         t.check("standard output closed", ("pressed.bin", (place / "pressed.bin").read_bytes(), PAIR_OUT))
 
 
 def linked(t):
-    """A link in the place of pressed.bin, or of the part, is replaced, and what it leads to stays as it is."""
-    for name in ["pressed.bin", PART]:
-        with t.folder({**files(), "other": OLD, name: Link("other")}) as place:
-            t.check(
-                f"{name} is a link",
-                ("the line", t.run(place), PAIR_OK + "\n"),
-                ("pressed.bin", (place / "pressed.bin").read_bytes(), PAIR_OUT),
-                ("what it led to", (place / "other").read_bytes(), OLD),
-                ("the folder", sorted(os.listdir(place)), ["other", "pressed.bin", "rules.bin", "sheet.bin"]),
-            )
+    """A link in the place of pressed.bin is replaced, and what it leads to stays as it is."""
+    with t.folder({**files(), "other": OLD, "pressed.bin": Link("other")}) as place:
+        t.check(
+            "pressed.bin is a link",
+            ("the line", t.run(place), PAIR_OK + "\n"),
+            ("pressed.bin", (place / "pressed.bin").read_bytes(), PAIR_OUT),
+            ("what it led to", (place / "other").read_bytes(), OLD),
+            ("the folder", sorted(os.listdir(place)), ["other", "pressed.bin", "rules.bin", "sheet.bin"]),
+        )
+
+
+def named_like_a_part(t):
+    """A file of the user's that has a name of the part's stays as it is."""
+    for what, made in [("a file", OLD), ("a folder", FOLDER), ("a link", Link("sheet.bin")), ("a link to nowhere", Link("nowhere/at/all"))]:
+        t.answers(f"{what} named like the part", {**files(), PARTS[0]: made}, PAIR_OK, PAIR_OUT)
+        t.answers(f"{what} named like the part, over a pressed.bin", {**files(pressed=OLD), PARTS[0]: made}, PAIR_OK, PAIR_OUT)
+    for count in [9, 10]:
+        taken = {name: OLD for name in PARTS[:count]}
+        t.answers(f"{count} of the part's names taken", {**files(), **taken}, PAIR_OK, PAIR_OUT)
+        t.answers(f"{count} of the part's names taken, over a pressed.bin", {**files(pressed=OLD), **taken}, PAIR_OK, PAIR_OUT)
+
+
+def in_place(t):
+    """No file can be made beside pressed.bin, or none may take its name, and it can be written: nothing of the old bytes is left."""
+    closed = {"folder_mode": 0o555}
+    t.answers("a folder that cannot be written, a pressed.bin that can", files(pressed=OLD), PAIR_OK, PAIR_OUT, **closed)
+    t.answers("the same, and it cannot be read", files(pressed=OLD), PAIR_OK, PAIR_OUT, modes=[("pressed.bin", 0o200)], **closed)
+    t.answers("the same, of no bytes", files(pressed=b""), PAIR_OK, PAIR_OUT, **closed)
+    with t.folder({**files(), "other": OLD, "pressed.bin": Link("other")}) as place:
+        place.chmod(0o555)
+        t.check("in place, through a link", ("the line", t.run(place), PAIR_OK + "\n"), ("other", (place / "other").read_bytes(), PAIR_OUT))
+    with t.folder(files(pressed=OLD)) as place:
+        place.chmod(0o555)
+        t.check("in place, and no room", ("the line", t.run(place, file_limit(48)), "unwritable pressed.bin\n"))
+    if can_fail():
+        t.answers("rename fails", files(), PAIR_OK, PAIR_OUT, before=failing("rename", errno.EPERM))
+        t.answers("rename fails, over a pressed.bin", files(pressed=OLD), PAIR_OK, PAIR_OUT, before=failing("rename", errno.EPERM))
+
+
+def interrupted(t):
+    """A call that a signal interrupts is made again; a close is not, and does no harm."""
+    if not can_fail():
+        print("not run: calls that are interrupted (the system takes no filter of calls)")
+        return
+    read, written = ["rules.bin", "sheet.bin"], ["pressed.bin", PARTS[0]]
+    of = {"open": [*read, *written], "read": read, "write": [PARTS[0], "standard output"], "fsync": written, "close": [*read, *written]}
+    for call, names in of.items():
+        calls = Interrupts(call)
+        t.answers(f"{call} is interrupted", files(pressed=OLD), PAIR_OK, PAIR_OUT, before=calls)
+        t.check(f"{call} was interrupted", ("of", sorted(calls.seen), sorted(names)))
+        calls = Interrupts(call)
+        t.answers(f"{call} is interrupted, in place", files(pressed=OLD), PAIR_OK, PAIR_OUT, before=calls, folder_mode=0o555)
+    t.answers("a long file, read with interruptions", files(24 * 6000), "refused 3", before=Interrupts("read"))
 
 
 def in_pieces(t):
@@ -248,9 +291,8 @@ def unwritable(t, disk):
     case("a folder for pressed.bin", files(pressed=FOLDER))
     case("a device for pressed.bin", files(pressed=Link("/dev/full")))
     case("a pressed.bin that leads to itself", files(pressed=Link("pressed.bin")))
-    case("a folder for the part", files(part=FOLDER))
-    case("a folder for the part, over a pressed.bin", files(pressed=OLD, part=FOLDER))
-    both("a folder that cannot be written", folder_mode=0o555)
+    case("a folder that cannot be written, and no pressed.bin", files(), folder_mode=0o555)
+    case("the same, and a pressed.bin that can only be read", files(pressed=OLD), folder_mode=0o555, modes=[("pressed.bin", 0o444)])
     # The disk is full at some byte of the part: the first, some in the middle, the last.
     for most in [0, 1, 48, 119]:
         both(f"no room after {most} bytes", before=file_limit(most))
@@ -268,7 +310,6 @@ def unwritable(t, disk):
         return
     both("a write fails", before=failing("write", errno.ENOSPC, len(PAIR_OUT)))
     both("fsync fails", before=failing("fsync", errno.EIO))
-    both("rename fails", before=failing("rename", errno.EIO))
 
 
 def run_all(t, disk):

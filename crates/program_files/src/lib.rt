@@ -2,6 +2,7 @@
 ghost use Prim.Native.Nat.{_≤_};
 ghost use lib.ListN.{length};
 ghost use Rattle.program_files.specs.Files.{Brings};
+use calls::How;
 
 // No file is as long.
 const LONGEST: usize = 0x8000_0000_0000_0000;
@@ -33,7 +34,7 @@ fn read_past(fd: i32) -> Brought
     ensures { λ r. ⌜ Brings 65536 r ⌝ }
 {
     let mut rest = io::large_buffer();
-    let got = libc::read(fd, &mut rest);
+    let got = calls::read(fd, &mut rest);
     bytes_of(got, &rest)
 }
 
@@ -46,7 +47,7 @@ fn read_some(fd: i32, start: &mut [u8], at: usize) -> Brought
         return read_past(fd);
     }
     let left = &mut start[at..];
-    let got = libc::read(fd, left);
+    let got = calls::read(fd, left);
     bytes_of(got, left)
 }
 
@@ -71,7 +72,7 @@ fn read_to_end(fd: i32, start: &mut [u8]) -> Length
 pub fn read_file(path: &[u8], start: &mut [u8]) -> Length
     requires { ⌜ length (now start) ≤ 65536 ⌝ }
 {
-    let fd = os::open_read(path);
+    let fd = calls::open(path, How::Read);
     if fd < 0 {
         return Length::Unreadable;
     }
@@ -83,37 +84,60 @@ pub fn read_file(path: &[u8], start: &mut [u8]) -> Length
 // Whether there is no such file, or one that lets itself be written. It is opened to append, so none of its bytes change; fsync is refused
 // by what is no file, as a device.
 fn lets_itself_be_written(path: &[u8]) -> bool {
-    let fd = os::open_append(path);
+    let fd = calls::open(path, How::Append);
     if fd < 0 {
         return os::errno() == libc::ENOENT;
     }
-    let synced = libc::fsync(fd);
+    let is_file = calls::fsync(fd);
     libc::close(fd);
-    synced == 0
+    is_file
 }
 
-// Makes a new file of these bytes.
-fn write_new(path: &[u8], bytes: &[u8]) -> bool {
-    let fd = os::create(path);
-    if fd < 0 {
-        return false;
+// Writes the bytes into a file that was opened for them. They are on the disk before it is closed, so a close has nothing more to say.
+fn fill(fd: i32, bytes: &[u8]) -> bool {
+    let is_written = calls::write_all(fd, bytes) && calls::fsync(fd);
+    libc::close(fd);
+    is_written
+}
+
+// Makes a new file under the first of ten names that is not taken; the name's last byte is counted up. A file that has such a name is not
+// ours, and stays.
+fn make_part(name: &mut [u8]) -> i32 {
+    if name.len() == 0 {
+        return -1;
     }
-    let is_written = io::write_all(fd, bytes);
-    let synced = libc::fsync(fd);
-    let closed = libc::close(fd);
-    is_written && synced == 0 && closed == 0
+    let last = name.len() - 1;
+    let mut digit = b'0';
+    while digit <= b'9' {
+        name[last] = digit;
+        let fd = calls::open(name, How::New);
+        if 0 <= fd || os::errno() != libc::EEXIST {
+            return fd;
+        }
+        digit += 1;
+    }
+    -1
 }
 
-// Puts a file of these bytes in the place of another: it is written beside it and then takes its name, so that the old file stays whole
-// until the new one is.
-pub fn replace(path: &[u8], part: &[u8], bytes: &[u8]) -> bool {
+fn write_in_place(path: &[u8], bytes: &[u8]) -> bool {
+    let fd = calls::open(path, How::Anew);
+    0 <= fd && fill(fd, bytes)
+}
+
+// Makes these bytes the file's. They are written beside it, under a name that ends with a digit, and then take its name: the old file stays
+// whole until the new one is. Where no file can be made there, or none may take the name, they are written in place.
+pub fn replace(path: &[u8], part: &mut [u8], bytes: &[u8]) -> bool {
     if !lets_itself_be_written(path) {
         return false;
     }
-    os::unlink(part);
-    if write_new(part, bytes) && os::rename(part, path) == 0 {
+    let fd = make_part(part);
+    if fd < 0 {
+        return write_in_place(path, bytes);
+    }
+    let is_filled = fill(fd, bytes);
+    if is_filled && os::rename(part, path) == 0 {
         return true;
     }
     os::unlink(part);
-    false
+    is_filled && write_in_place(path, bytes)
 }

@@ -7,13 +7,21 @@ use libc::STDOUT_FILENO;
 use sheet::Reason;
 use sheet::RecordNo;
 
+// A set's word as hex.
+const SET_DIGITS: usize = 16;
+
+// Bytes are printed so many at a time, each as two digits.
+const PART: usize = 2000;
+
 pub fn print(words: &[u8]) {
-    io::write_all(STDOUT_FILENO, words);
+    calls::write_all(STDOUT_FILENO, words);
 }
 
 pub fn print_number(words: &[u8], n: u64) {
+    let mut digits = [0u8; 20];
+    let k = io::decimal(n, &mut digits);
     print(words);
-    io::print_decimal(STDOUT_FILENO, n);
+    print(&digits[..k]);
 }
 
 pub fn print_count(words: &[u8], n: u16) {
@@ -21,8 +29,10 @@ pub fn print_count(words: &[u8], n: u16) {
 }
 
 pub fn print_set(words: &[u8], s: Set) {
+    let mut digits = [0u8; SET_DIGITS];
+    let k = io::hex(s.0, SET_DIGITS, &mut digits);
     print(words);
-    io::print_hex(STDOUT_FILENO, s.0, 16);
+    print(&digits[..k]);
 }
 
 // "= ok <positive> <negative>", with which each accepted answer begins.
@@ -58,11 +68,10 @@ fn put_hex(bytes: &[u8], text: &mut [u8])
     }
 }
 
-// At most 512 bytes.
 fn print_part(bytes: &[u8])
-    requires { ⌜ length (now bytes) ≤ 512 ⌝ }
+    requires { ⌜ length (now bytes) ≤ 2000 ⌝ }
 {
-    let mut text = [0u8; 1024];
+    let mut text = [0u8; 2 * PART];
     put_hex(bytes, &mut text);
     let n = 2 * bytes.len();
     print(&text[..n]);
@@ -74,7 +83,7 @@ pub fn print_bytes(bytes: &[u8]) {
     }
     let mut at = 0;
     while at < bytes.len() {
-        let end = at + crate::least(bytes.len() - at, 512);
+        let end = at + crate::least(bytes.len() - at, PART);
         print_part(&bytes[at..end]);
         at = end;
     }

@@ -2,14 +2,26 @@
 // line." All in the folder that it runs in.
 use press::PressAnswer;
 use program_files::Length;
+use sheet::limits::LINE_BYTES;
+use sheet::limits::PRESS_RECORDS;
+use sheet::limits::PRESSED_RECORDS;
+use sheet::limits::RECORD_BYTES;
+use sheet::limits::TABLE_LINES;
 use stdio::text;
 
 mod say;
 
+// The longest files that pass the checks on lengths, and the longest that is written.
+const RULES: usize = LINE_BYTES * TABLE_LINES;
+
+const SHEET: usize = RECORD_BYTES * PRESS_RECORDS;
+
+const PRESSED: usize = RECORD_BYTES * PRESSED_RECORDS;
+
 // Both files are read before anything is judged, "`rules.bin` tried first".
 fn main() {
-    let mut rules = [0u8; 16384];
-    let mut sheet = [0u8; 12288];
+    let mut rules = [0u8; RULES];
+    let mut sheet = [0u8; SHEET];
     let rules_read = program_files::read_file(b"rules.bin", &mut rules);
     let Length::Whole(rules_length) = rules_read else {
         text::print(b"unreadable rules.bin\n");
@@ -23,10 +35,15 @@ fn main() {
     answer(&sheet, sheet_length, &rules, rules_length);
 }
 
+fn is_written(bytes: &[u8]) -> bool {
+    let mut part = *b"pressed.bin.part0";
+    program_files::replace(b"pressed.bin", &mut part, bytes)
+}
+
 // Presses what was read, and writes what is accepted.
-fn answer(sheet: &[u8; 12288], sheet_length: usize, rules: &[u8; 16384], rules_length: usize) {
-    let mut out = [0u8; 24552];
-    let mut marks = [0u8; 1024];
+fn answer(sheet: &[u8; SHEET], sheet_length: usize, rules: &[u8; RULES], rules_length: usize) {
+    let mut out = [0u8; PRESSED];
+    let mut marks = [0u8; TABLE_LINES];
     let answer = program_whole::press_whole(
         sheet,
         sheet_length,
@@ -38,7 +55,7 @@ fn answer(sheet: &[u8; 12288], sheet_length: usize, rules: &[u8; 16384], rules_l
     match answer {
         PressAnswer::Accepted(pressed) => {
             let end = program_whole::record_bytes(pressed);
-            if program_files::replace(b"pressed.bin", b"pressed.bin.part", &out[..end]) {
+            if is_written(&out[..end]) {
                 say::accepted(pressed);
             } else {
                 text::print(b"unwritable pressed.bin\n");

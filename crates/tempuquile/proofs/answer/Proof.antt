@@ -21,20 +21,14 @@ enum-known-answer c = search needs
 record-bytes-requires : tie.Need-record-bytes-requires
 record-bytes-requires c κs = search needs
 
-slice-aggregate-replace : tie.Need-slice-aggregate-replace
-slice-aggregate-replace c = search needs
-
-slice-aggregate-replace-2 : tie.Need-slice-aggregate-replace-2
-slice-aggregate-replace-2 c = search needs
-
 array-share-prefix-out : tie.Need-array-share-prefix-out
-array-share-prefix-out c = omega (arith, c .before .before .record-bytes .ensures, fits-bytes _ _ _ (c .before .before .before .before .answer .given .1) (c .before .before .before .before .before .before .before .before .press-whole .ensures .1))
+array-share-prefix-out c = omega (arith, c .record-bytes .ensures, fits-bytes _ _ _ (c .before .before .answer .given .1) (c .before .before .before .before .before .before .press-whole .ensures .1))
 
-slice-aggregate-replace-3 : tie.Need-slice-aggregate-replace-3
-slice-aggregate-replace-3 c = sym (length-take-le _ _ (omega (arith, c .before .before .before .record-bytes .ensures, fits-bytes _ _ _ (c .before .before .before .before .before .answer .given .1) (c .before .before .before .before .before .before .before .before .before .press-whole .ensures .1))))
+slice-aggregate-is-written : tie.Need-slice-aggregate-is-written
+slice-aggregate-is-written c = sym (length-take-le _ _ (omega (arith, c .before .record-bytes .ensures, fits-bytes _ _ _ (c .before .before .before .answer .given .1) (c .before .before .before .before .before .before .before .press-whole .ensures .1))))
 
-replace-requires : tie.Need-replace-requires
-replace-requires c κs = search needs
+is-written-requires : tie.Need-is-written-requires
+is-written-requires c κs = search needs
 
 accepted-requires : tie.Need-accepted-requires
 accepted-requires c κs = search needs
@@ -69,11 +63,9 @@ answer-spec =
     press-whole-requires
     enum-known-answer
     record-bytes-requires
-    slice-aggregate-replace
-    slice-aggregate-replace-2
     array-share-prefix-out
-    slice-aggregate-replace-3
-    replace-requires
+    slice-aggregate-is-written
+    is-written-requires
     accepted-requires
     slice-aggregate-print
     print-requires

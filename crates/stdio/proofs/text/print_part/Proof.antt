@@ -1,7 +1,5 @@
-use Prim.Native.Nat.{ℕ}
 use mathlib.Core.Path.{sym}
 use native.Mathlib.Omega.{arith}
-use lib.ListN.{length-replicate}
 use lib.Seq.{length-take-le}
 use borrow.Author.Needs.{needs}
 use Rattle.stdio.proofs.text.print_part.Statement.{statement}
@@ -17,10 +15,10 @@ mul-n : tie.Need-mul-n
 mul-n c = search needs
 
 array-share-prefix-text : tie.Need-array-share-prefix-text
-array-share-prefix-text c = omega (arith, c .before .put-hex .kept .1 .0, length-replicate {A = ℕ} 1024 0)
+array-share-prefix-text c = omega (arith, c .before .put-hex .kept .1 .0)
 
 slice-aggregate-print : tie.Need-slice-aggregate-print
-slice-aggregate-print c = sym (length-take-le _ _ (omega (arith, c .before .before .put-hex .kept .1 .0, length-replicate {A = ℕ} 1024 0)))
+slice-aggregate-print c = sym (length-take-le _ _ (omega (arith, c .before .before .put-hex .kept .1 .0)))
 
 print-requires : tie.Need-print-requires
 print-requires c κs = search needs
