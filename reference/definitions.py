@@ -72,8 +72,8 @@ use lib.ListN.{length}
 use Rattle.base.specs.Bytes.{bytes, flat}
 use Rattle.sheet.specs.Editions.{narrow, recordBytes}
 use Rattle.sheet.specs.Fields.{recordAt}
-use Rattle.replaying.specs.Step.{State, Turn, goes, stops, turn}
-use Rattle.replaying.specs.Replay.{start}
+use Rattle.replay_spec.specs.Step.{State, Turn, goes, stops, turn}
+use Rattle.replay_spec.specs.Replay.{start}
 use Rattle.demands.specs.Cases as Cases
 use Rattle.demands.specs.Cases.{presses, replays, right, junk, dirty, clean, slotNumbers, equal}
 use Rattle.demands.proofs.Computing.{computing}
@@ -109,7 +109,7 @@ def main():
         scratch = pathlib.Path(place)
         shutil.copytree(ROOT / "crates", scratch / "crates")
         names = [line for line in (ROOT / "crates.txt").read_text().splitlines() if line.strip()]
-        names.append("scratch: base clause sheet replaying pressing demands")
+        names.append("scratch: base clause sheet replay_spec press_spec demands")
         (scratch / "crates.txt").write_text("\n".join(names) + "\n")
         specs = scratch / "crates/scratch/specs"
         specs.mkdir(parents=True)

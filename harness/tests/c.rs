@@ -15,7 +15,7 @@ fn run(name: &str) -> String {
         .args(["-std=c11", "-Wall", "-Wextra", "-Werror", "-O2", "-I"])
         .arg(package.join("../include"))
         .arg(package.join(format!("{name}.c")))
-        .arg(package.join("../target/native/libexports.a"))
+        .arg(package.join("../target/native/libtempuquile.a"))
         .arg("-o")
         .arg(&program)
         .status()

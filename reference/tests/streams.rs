@@ -43,14 +43,14 @@ fn has_every_answer(text: &str) {
 
 #[test]
 fn the_tries_are_committed() {
-    has_every_answer(&committed("tries", &tries::entries()).stdout);
+    has_every_answer(&committed("cases_worked", &tries::entries()).stdout);
 }
 
 #[test]
 fn the_trials_are_committed() {
     let entries = stream::random(SEED, COUNT);
     assert!(entries.len() >= 2000);
-    let made = committed("trials", &entries);
+    let made = committed("cases_random", &entries);
     assert!(made.stdin.len() < 4_000_000);
     has_every_answer(&made.stdout);
 }

@@ -1,4 +1,4 @@
--- What a walk says at a call of a function of `answer`, each on values alone: one step each, by `call-plain`. All that it knows of them is that each meets its contract.
+-- What a walk says at a call of a function of `replay_answer`, each on values alone: one step each, by `call-plain`. All that it knows of them is that each meets its contract.
 -- Each takes that the operands are read, in a context with one entry more, at the head. Once the call has returned, the result is some r of which the contract holds.
 -- Assumes `Given`.
 use mathlib.Core.Path.{_≡_, refl}

@@ -1,4 +1,4 @@
--- What a walk that has the row open says at a call of `row::find`, `slot_at`, `put`, `free` or `clear`: one step each. All that it knows of them is that each meets its contract.
+-- What a walk that has the row open says at a call of `replay_row::find`, `slot_at`, `put`, `free` or `clear`: one step each. All that it knows of them is that each meets its contract.
 --     call-find    `find(&slots, x)`: the row, at any share, is as it was, and the result is the machine value of what a search through the row finds
 --     call-slot-at `slot_at(&slots, at)`: the row, at any share, is as it was, and the result is the machine value of a slot that is the one there, or an empty one
 --     call-put     `put(&mut slots, at, s)`: the row is then `set ys (at .0) s`, and the result is ()
@@ -83,7 +83,7 @@ module _ {M : Type 1} (𝓤 : URA M) (H : Heap 𝓤) (A : Atoms 𝓤) (at-mem : 
   abbrev pub Clear : Contract 𝓤
   Clear = tripleOf 𝓤 H A clear.signature (clear.spec 𝓤 H A at-mem run)
 
-  -- `slots::empty`, which two of the walks call
+  -- `replay_slots::empty`, which two of the walks call
   abbrev pub Empty : Contract 𝓤
   Empty = tripleOf 𝓤 H A empty′.signature (empty′.spec 𝓤 H A at-mem run)
 

@@ -1,4 +1,4 @@
--- The machine values of what the walks hold beside the row (`row`'s `Cells.antt` has the row's own).
+-- The machine values of what the walks hold beside the row (`replay_row`'s `Cells.antt` has the row's own).
 use mathlib.Core.List.{[], _∷_}
 use mir.Val.{Val}
 use denote.Laws.{Is}

@@ -1,4 +1,4 @@
--- `look::look_after` meets its contract: a walk of its MIR, by hand. It is `own::replay_in`'s walk: as many of a local array's slots as are asked for, or all, are lent to `look_from` as a row.
+-- `replay_look::look_after` meets its contract: a walk of its MIR, by hand. It is `own::replay_in`'s walk: as many of a local array's slots as are asked for, or all, are lent to `look_from` as a row.
 -- No list is computed: the array's laws (`lending`'s `Arrays`) have its length as a variable.
 -- Assumes nothing.
 use mathlib.Core.Path.{_≡_, refl, sym, ap, _∙_}

@@ -1,4 +1,4 @@
--- `look::look_from` meets its contract: a walk of its MIR, by hand. It is `run`'s walk with no record refused: the row is opened before the loop and closed after it, and the local tally is lent to each step beside it, with a part of the sheet. With k records passed, what stands is what stands after k of them.
+-- `replay_look::look_from` meets its contract: a walk of its MIR, by hand. It is `run`'s walk with no record refused: the row is opened before the loop and closed after it, and the local tally is lent to each step beside it, with a part of the sheet. With k records passed, what stands is what stands after k of them.
 -- Assumes nothing.
 use mathlib.Core.Path.{_≡_, refl, sym, ap, _∙_}
 use Prim.Native.Nat.{ℕ, _^_, _<_, _≤_, _+_, _-_, _*_, _/_, min, zero-le}

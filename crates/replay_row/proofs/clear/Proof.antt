@@ -1,4 +1,4 @@
--- `row::clear` meets its contract: a walk of its MIR, by hand. The borrow is opened before the loop and closed after it. The invariant: with i slots passed, the first i are free and the others as they were.
+-- `replay_row::clear` meets its contract: a walk of its MIR, by hand. The borrow is opened before the loop and closed after it. The invariant: with i slots passed, the first i are free and the others as they were.
 -- Assumes nothing.
 use mathlib.Core.Path.{_≡_, refl, sym, ap, subst, _∙_}
 use Prim.Native.Nat.{ℕ, zero, suc, _<_, _≤_, _+_, _-_, _^_, zero-le}

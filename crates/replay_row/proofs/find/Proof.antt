@@ -1,4 +1,4 @@
--- `row::find` meets its contract: a walk of its MIR, by hand. The slice is looked into before the loop and shut where the function returns, which is inside the loop or after it. The invariant: no slot that was passed is the one sought.
+-- `replay_row::find` meets its contract: a walk of its MIR, by hand. The slice is looked into before the loop and shut where the function returns, which is inside the loop or after it. The invariant: no slot that was passed is the one sought.
 -- Assumes nothing.
 use mathlib.Core.Path.{_≡_, refl, sym, ap, _∙_}
 use Prim.Native.Nat.{ℕ, _<_, _≤_, _+_, _-_, _^_, zero-le}

@@ -1,4 +1,4 @@
--- `row::free` meets its contract: a walk of its MIR, by hand. The borrow is opened, the row is lent to `put` with a slot that is all zero, and the borrow is closed.
+-- `replay_row::free` meets its contract: a walk of its MIR, by hand. The borrow is opened, the row is lent to `put` with a slot that is all zero, and the borrow is closed.
 -- Assumes nothing.
 use mathlib.Core.Path.{_≡_, refl, sym, ap, subst, _∙_}
 use Prim.Native.Nat.{ℕ}

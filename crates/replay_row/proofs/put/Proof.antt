@@ -1,4 +1,4 @@
--- `row::put` meets its contract: a walk of its MIR, by hand. The borrow is opened; where the number is within the row, its slot is stored to; and the borrow is closed.
+-- `replay_row::put` meets its contract: a walk of its MIR, by hand. The borrow is opened; where the number is within the row, its slot is stored to; and the borrow is closed.
 -- Assumes nothing.
 use mathlib.Core.Path.{_≡_, refl, sym, ap, subst}
 use Prim.Native.Nat.{ℕ, _<_, _^_}

@@ -1,4 +1,4 @@
--- `row::slot_at` meets its contract: a walk of its MIR, by hand. The slice is looked into, and shut on both ways out.
+-- `replay_row::slot_at` meets its contract: a walk of its MIR, by hand. The slice is looked into, and shut on both ways out.
 -- Assumes nothing.
 use mathlib.Core.Path.{_≡_, refl, sym, _∙_}
 use Prim.Native.Nat.{ℕ, _<_, _^_}

@@ -1,4 +1,4 @@
--- `step::step` meets its contract: a walk of its MIR, by hand. The row and the tally are opened at entry. What the record names is looked up in the row, `decide::decide` is called on the values, what it decided is put and stored, and both borrows are closed.
+-- `replay_step::step` meets its contract: a walk of its MIR, by hand. The row and the tally are opened at entry. What the record names is looked up in the row, `replay_decide::decide` is called on the values, what it decided is put and stored, and both borrows are closed.
 -- Assumes nothing.
 use mathlib.Core.Path.{_≡_, refl, sym, ap, subst, _∙_}
 use Prim.Native.Nat.{ℕ}
