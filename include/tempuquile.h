@@ -59,12 +59,12 @@ extern "C" {
 #define TEMPUQUILE_REPLAY_WORDS 6
 
 /*
- * A slot of the replay's row: 24 bytes, aligned to 8. A free slot's fields are all zero; in one that is in use `used` is not zero.
- * Bytes 1 and 4 to 7 belong to no field: nothing is promised of them, and a call may leave there what it had on its stack.
+ * A slot of the replay's row: 24 bytes, aligned to 8, each of which belongs to a field. A free slot is all zero; in one that is in use
+ * `used` is not zero.
  */
 typedef struct tempuquile_slot {
-    uint8_t used;      /* at 0: a mark of whether it's in use */
-    uint16_t node;     /* at 2: the node's number */
+    uint32_t used;     /* at 0: a mark of whether it's in use */
+    uint32_t node;     /* at 4: the node's number */
     uint64_t positive; /* at 8: the clause's positive set */
     uint64_t negative; /* at 16: its negative set */
 } tempuquile_slot;
@@ -79,7 +79,7 @@ typedef struct tempuquile_slot {
 TEMPUQUILE_HOLDS(sizeof(tempuquile_slot) == 24);
 TEMPUQUILE_HOLDS(TEMPUQUILE_ALIGNED == 8);
 TEMPUQUILE_HOLDS(offsetof(tempuquile_slot, used) == 0);
-TEMPUQUILE_HOLDS(offsetof(tempuquile_slot, node) == 2);
+TEMPUQUILE_HOLDS(offsetof(tempuquile_slot, node) == 4);
 TEMPUQUILE_HOLDS(offsetof(tempuquile_slot, positive) == 8);
 TEMPUQUILE_HOLDS(offsetof(tempuquile_slot, negative) == 16);
 TEMPUQUILE_HOLDS(sizeof(size_t) == 8);

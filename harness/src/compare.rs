@@ -122,7 +122,7 @@ pub fn replay_alike(
     let ours = library::replay(sheet, rules, row.slots(), report.words());
     let their_row = match code(&theirs) {
         1..=4 => before,
-        _ => before.with_free_slots(&row),
+        _ => before.with_free_slots(),
     };
     same_code(ours, code(&theirs))?;
     same("the report", &report, &their_report)?;

@@ -30,7 +30,7 @@ impl Lent {
         Lent::new(rng, count * size_of::<u64>())
     }
 
-    /// Marks of use and the bytes between the fields are random too.
+    /// Marks of use are random too.
     pub fn of_slots(rng: &mut Rng, count: usize) -> Lent {
         Lent::new(rng, count * size_of::<Slot>())
     }
@@ -51,17 +51,10 @@ impl Lent {
         unsafe { std::slice::from_raw_parts_mut(start, count) }
     }
 
-    /// The same memory with free slots: the fields zero, the bytes between them
-    /// as in `after`, of which nothing is promised.
-    pub fn with_free_slots(&self, after: &Lent) -> Lent {
+    /// The same memory with free slots, which are all zero.
+    pub fn with_free_slots(&self) -> Lent {
         let mut expected = self.clone();
-        expected.words().copy_from_slice(after.clone().words());
-        for slot in expected.slots() {
-            slot.used = 0;
-            slot.node = 0;
-            slot.positive = 0;
-            slot.negative = 0;
-        }
+        expected.words().fill(0);
         expected
     }
 }

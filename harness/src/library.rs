@@ -33,8 +33,8 @@ pub mod c {
 #[derive(Clone, Copy, Debug, Default, PartialEq, Eq)]
 #[repr(C)]
 pub struct Slot {
-    pub used: u8,
-    pub node: u16,
+    pub used: u32,
+    pub node: u32,
     pub positive: u64,
     pub negative: u64,
 }

@@ -38,12 +38,12 @@ fn the_pair_pressed_and_replayed_from_c() {
 fn the_headers_slot_is_the_harness_slot() {
     let ours = [
         (size_of::<Slot>(), align_of::<Slot>()),
-        (offset_of!(Slot, used), size_of::<u8>()),
-        (offset_of!(Slot, node), size_of::<u16>()),
+        (offset_of!(Slot, used), size_of::<u32>()),
+        (offset_of!(Slot, node), size_of::<u32>()),
         (offset_of!(Slot, positive), size_of::<u64>()),
         (offset_of!(Slot, negative), size_of::<u64>()),
     ];
     let ours: String = ours.iter().map(|(a, b)| format!("{a} {b}\n")).collect();
     assert_eq!(run("layout"), ours);
-    assert_eq!(ours, "24 8\n0 1\n2 2\n8 8\n16 8\n");
+    assert_eq!(ours, "24 8\n0 4\n4 4\n8 8\n16 8\n");
 }

@@ -34,8 +34,8 @@ fn fields(row: &[AtomicU64], n: usize) -> [u64; 4] {
         word & (u64::MAX >> (64 - 8 * size))
     };
     [
-        field(offset_of!(Slot, used), 1),
-        field(offset_of!(Slot, node), 2),
+        field(offset_of!(Slot, used), 4),
+        field(offset_of!(Slot, node), 4),
         field(offset_of!(Slot, positive), 8),
         field(offset_of!(Slot, negative), 8),
     ]

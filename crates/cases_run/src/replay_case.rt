@@ -3,10 +3,10 @@ use replay_answer::ReplayAnswer;
 use replay_answer::Replayed;
 use replay_slots::Slot;
 use replay_slots::StepAnswer;
-use replay_slots::Tally;
 use sheet::SlotNo;
 use sheet::Verdict;
 use stdio::text;
+use tally::Tally;
 
 fn print_replayed(r: Replayed) {
     text::print_ok(r.conclusion);
@@ -30,9 +30,8 @@ fn print_slot(s: Slot) {
         text::print(b" -");
         return;
     }
-    let node = s.node;
     let clause = s.clause;
-    text::print_count(b" ", node.0);
+    text::print_number(b" ", s.node as u64);
     text::print_set(b":", clause.positive);
     text::print_set(b":", clause.negative);
 }

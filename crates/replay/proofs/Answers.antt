@@ -31,16 +31,18 @@ use Rattle.sheet.proofs.NodeNo as N
 use Rattle.sheet.proofs.NodeNo.Laws as N′
 use Rattle.sheet.proofs.Verdict as J
 use Rattle.sheet.proofs.Verdict.Laws as J′
+use Rattle.tally.specs.Tally.{nothing}
+use Rattle.tally.specs.Said.{tallyOf}
 use Rattle.replay_spec.specs.Slots.{Slot as RowSlot, holding}
-use Rattle.replay_spec.specs.Step.{state, tally, passes}
+use Rattle.replay_spec.specs.Step.{state, passes}
 use Rattle.replay_spec.specs.Replay.{ending}
-use Rattle.replay_slots.specs.declared.Tally.{Tally}
+use Rattle.tally.specs.declared.Tally.{Tally}
 use Rattle.replay_slots.specs.declared.Found.{Found}
 use Rattle.replay_slots.specs.declared.StepAnswer.{StepAnswer}
 use Rattle.replay_slots.specs.Search.{search}
-use Rattle.replay_slots.specs.Said.{saidOfStep, tallyOf, foundOf}
-use Rattle.replay_slots.proofs.Tally as Y
-use Rattle.replay_slots.proofs.Tally.Laws as Y′
+use Rattle.replay_slots.specs.Said.{saidOfStep, foundOf}
+use Rattle.tally.proofs.Tally as Y
+use Rattle.tally.proofs.Tally.Laws as Y′
 use Rattle.replay_slots.proofs.Found as F
 use Rattle.replay_slots.proofs.Found.Laws as F′
 use Rattle.replay_slots.proofs.StepAnswer as S
@@ -51,8 +53,8 @@ use Rattle.replay_answer.proofs.ReplayAnswer as B
 use Rattle.replay_answer.proofs.ReplayAnswer.Laws as B′
 use Rattle.replay_row.proofs.Cells.{fv}
 use Rattle.replay_step.proofs.Values.{tally-val, step-val, answer-val, verdict-val, node-val}
-use Rattle.replay_answer.proofs.nothing as nothing′
-use Rattle.replay_answer.proofs.nothing.Symbol.{name as #nothing}
+use Rattle.tally.proofs.nothing as nothing′
+use Rattle.tally.proofs.nothing.Symbol.{name as #nothing}
 use Rattle.replay_answer.proofs.is_taken as taken′
 use Rattle.replay_answer.proofs.is_taken.Symbol.{name as #taken}
 use Rattle.replay_answer.proofs.stopped as stopped′
@@ -92,10 +94,10 @@ module _ {M : Type 1} {𝓤 : URA M} {H : Heap 𝓤} {A : Atoms 𝓤} {K : Type 
     {E : Env 𝓤 H} {C : Calls 𝓤 H} {Λ : Loops 𝓤 H} {q : Post 𝓤 H} {d : Place} {rest : Body} {xs : List Operand} where
   pub call-nothing : K → (mem : Memory → SProp 𝓤) (run : Routine → Fun 𝓤) → FmC 𝓤 H (W .laws) C → Triple 𝓤 (C #nothing) (Nothing 𝓤 H A mem run)
       → Opds K W (raw (Nothing 𝓤 H A mem run .pre ((tt, tt, tt, tt, tt), tt)) ∷ Γ) E xs ([])
-      → ((r : Tally) → tallyOf r ≡ tally 0 0 0 0 → Is Y.the-row r (tally-val r ∷ []) → Seq K W Γ (lands C Λ E d (tally-val r) rest q))
+      → ((r : Tally) → tallyOf r ≡ nothing → Is Y.the-row r (tally-val r ∷ []) → Seq K W Γ (lands C Λ E d (tally-val r) rest q))
       → Seq K W Γ (runs C Λ E (seq (call #nothing xs d) rest) q)
   call-nothing t mem run fm known os k =
-      call-plain t fm nothing′.ended (nothing′.clauses 𝓤 H A mem run) known tt tt tt (id⊢ 𝓤 _) tt tally-val (LL.tells Y.the-type Y′.the-laws) tt tt tt tt (id⊢ 𝓤 _) (λ r. tallyOf r ≡ tally 0 0 0 0) (λ r e. id⊢ 𝓤 _) os k
+      call-plain t fm nothing′.ended (nothing′.clauses 𝓤 H A mem run) known tt tt tt (id⊢ 𝓤 _) tt tally-val (LL.tells Y.the-type Y′.the-laws) tt tt tt tt (id⊢ 𝓤 _) (λ r. tallyOf r ≡ nothing) (λ r e. id⊢ 𝓤 _) os k
 
   pub call-taken : K → (mem : Memory → SProp 𝓤) (run : Routine → Fun 𝓤) → FmC 𝓤 H (W .laws) C → Triple 𝓤 (C #taken) (Is-taken 𝓤 H A mem run) → (a : StepAnswer) → Is S.the-row a (step-val a ∷ [])
       → Opds K W (raw (Is-taken 𝓤 H A mem run .pre ((tt, tt, tt, (a, tt), (step-val a ∷ [], tt)), tt)) ∷ Γ) E xs (step-val a ∷ [])

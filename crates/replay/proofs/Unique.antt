@@ -4,13 +4,14 @@ use mathlib.Core.List.{List, [], _∷_}
 use Rattle.clause.specs.Denote.{literalsOf}
 use Rattle.sheet.specs.Reasons.{numberOf}
 use Rattle.sheet.proofs.Reasons.{numberOf-injective}
+use Rattle.tally.specs.Said.{tallyOf}
 use Rattle.replay_spec.specs.Step.{state, Stepped, stepped}
 use Rattle.replay_spec.specs.Replay.{Outcome, outcome}
 use Rattle.replay_slots.specs.declared.Slot.{Slot as CodeSlot}
-use Rattle.replay_slots.specs.declared.Tally.{Tally as CodeTally}
+use Rattle.tally.specs.declared.Tally.{Tally as CodeTally}
 use Rattle.replay_slots.specs.declared.StepAnswer.{StepAnswer}
 use Rattle.replay_slots.specs.declared.StepAnswer.the-variants as S
-use Rattle.replay_slots.specs.Said.{slotOf, rowOf, tallyOf, saidOfStep}
+use Rattle.replay_slots.specs.Said.{slotOf, rowOf, saidOfStep}
 use Rattle.replay_answer.specs.declared.ReplayAnswer.{ReplayAnswer}
 use Rattle.replay_answer.specs.declared.ReplayAnswer.the-variants as A
 use Rattle.replay_answer.specs.Answers.{said}
@@ -54,7 +55,7 @@ pub slotOf-injective : (s₁ s₂ : CodeSlot) → slotOf s₁ ≡ slotOf s₂ �
 slotOf-injective s₁ s₂ e =
     λ i. record {
       used = e i .used;
-      node = record { 0 = e i .node };
+      node = e i .node;
       clause = record { positive = record { 0 = e i .clause .positive }; negative = record { 0 = e i .clause .negative } };
     }
 

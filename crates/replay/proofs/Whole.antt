@@ -8,8 +8,9 @@ use Rattle.sheet.specs.declared.Verdict.{Verdict}
 use Rattle.sheet.specs.declared.Verdict.the-variants.{Fine, Refused}
 use Rattle.sheet.specs.Editions.{narrow, replayRecords}
 use Rattle.sheet.specs.Checks.{checkLengths}
+use Rattle.tally.specs.Tally.{nothing}
 use Rattle.replay_spec.specs.Slots.{Slot as RowSlot, empty, cleared}
-use Rattle.replay_spec.specs.Step.{state, tally, passes}
+use Rattle.replay_spec.specs.Step.{state, passes}
 use Rattle.replay_spec.specs.Replay.{Answer, run, start, outcome, byLengths, replay}
 use Rattle.replay_slots.specs.declared.Slot.{Slot}
 use Rattle.replay_slots.specs.Said.{rowOf}
@@ -41,7 +42,7 @@ module _ (sheet rules : List ℕ) where
 
   -- the row is cleared, run through, and cleared again
   pub comes-fine : (ys zs₁ zs₂ zs₃ : List Slot) (a : Answer) → passes verdict ≡ true → rowOf zs₁ ≡ cleared (rowOf ys)
-      → (a ≡ run narrow rules sheet (length sheet / 24) 0 (state (tally 0 0 0 0) (rowOf zs₁))) × (length zs₂ ≡ length zs₁) → rowOf zs₃ ≡ cleared (rowOf zs₂)
+      → (a ≡ run narrow rules sheet (length sheet / 24) 0 (state nothing (rowOf zs₁))) × (length zs₂ ≡ length zs₁) → rowOf zs₃ ≡ cleared (rowOf zs₂)
       → outcome a (rowOf zs₃) ≡ replay narrow sheet rules (rowOf ys)
   unfolding replay byLengths start
   comes-fine ys zs₁ zs₂ zs₃ a pass e₁ e₂ e₃ =

@@ -5,7 +5,8 @@ ghost use lib.ListN.{length};
 ghost use Rattle.sheet.specs.declared.Verdict.the-variants.{Fine};
 ghost use Rattle.sheet.specs.Editions.{narrow, replayRecords};
 ghost use Rattle.sheet.specs.Checks.{checkLengths};
-ghost use Rattle.replay_spec.specs.Step.{tally, state};
+ghost use Rattle.tally.specs.Tally.{nothing};
+ghost use Rattle.replay_spec.specs.Step.{state};
 ghost use Rattle.replay_spec.specs.Replay.{run};
 ghost use Rattle.replay_slots.specs.Said.{rowOf};
 ghost use Rattle.replay_answer.specs.Answers.{said};
@@ -16,10 +17,10 @@ use sheet::RecordNo;
 
 pub(crate) fn run(sheet: &[u8], rules: &[u8], slots: &mut [Slot]) -> ReplayAnswer
     requires { ⌜ checkLengths narrow (replayRecords narrow) (length (now sheet)) (length (now rules)) ≡ Fine ⌝ }
-    ensures { λ r. ⌜ (said r ≡ run narrow (now (rules .entry)) (now (sheet .entry)) (length (now (sheet .entry)) / 24) 0 (state (tally 0 0 0 0) (rowOf (now (slots .entry))))) × (length (now (slots .exit)) ≡ length (now (slots .entry))) ⌝ }
+    ensures { λ r. ⌜ (said r ≡ run narrow (now (rules .entry)) (now (sheet .entry)) (length (now (sheet .entry)) / 24) 0 (state nothing (rowOf (now (slots .entry))))) × (length (now (slots .exit)) ≡ length (now (slots .entry))) ⌝ }
 {
     let records = sheet.len() / sheet::limits::RECORD_BYTES;
-    let mut t = replay_answer::nothing();
+    let mut t = tally::nothing();
     let mut k = 0;
     while k < records {
         let at = sheet::limits::RECORD_BYTES * k;

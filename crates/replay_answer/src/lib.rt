@@ -3,20 +3,21 @@ ghost use mathlib.Core.Path.{_≡_};
 ghost use mathlib.Core.List.{List};
 ghost use Prim.Native.Nat.{_-_};
 ghost use lib.ListN.{length};
+ghost use Rattle.tally.specs.Said.{tallyOf};
 ghost use Rattle.replay_spec.specs.Slots.{Slot, holding};
-ghost use Rattle.replay_spec.specs.Step.{tally, state, passes};
+ghost use Rattle.replay_spec.specs.Step.{state, passes};
 ghost use Rattle.replay_spec.specs.Replay.{ending};
 ghost use Rattle.replay_slots.specs.Search.{search};
-ghost use Rattle.replay_slots.specs.Said.{saidOfStep, tallyOf, foundOf};
+ghost use Rattle.replay_slots.specs.Said.{saidOfStep, foundOf};
 ghost use Rattle.replay_answer.specs.Answers.{said, isTaken, refusedBy, stoppedBy};
 use clause::Clause;
 use replay_slots::Found;
 use replay_slots::StepAnswer;
-use replay_slots::Tally;
 use sheet::NodeNo;
 use sheet::Reason;
 use sheet::RecordNo;
 use sheet::Verdict;
+use tally::Tally;
 
 // "An accepted replay returns .." these.
 pub struct Replayed {
@@ -47,18 +48,6 @@ pub fn refused(verdict: Verdict) -> ReplayAnswer
     match verdict {
         Verdict::Fine => ReplayAnswer::Refused(Reason::Table, RecordNo(0)),
         Verdict::Refused(why) => ReplayAnswer::Refused(why, RecordNo(0)),
-    }
-}
-
-// A tally of nothing.
-pub fn nothing() -> Tally
-    ensures { λ t. ⌜ tallyOf t ≡ tally 0 0 0 0 ⌝ }
-{
-    Tally {
-        next: 0,
-        held: 0,
-        peak: 0,
-        steps: 0,
     }
 }
 

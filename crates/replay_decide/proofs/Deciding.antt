@@ -20,15 +20,17 @@ use Rattle.sheet.specs.Reasons.{numberOf}
 use Rattle.sheet.specs.Records.{Node, clause, Record, node, drop, reads}
 use Rattle.sheet.specs.Fields.{reading}
 use Rattle.sheet.specs.Denote.{recordOf, readingOf, whyUnread}
+use Rattle.tally.specs.Tally.{Tally, counted}
+use Rattle.tally.specs.Said.{tallyOf}
 use Rattle.replay_spec.specs.Slots.{Slot, slot, empty, free, holding, held, clauseHeld, room, hold, release}
-use Rattle.replay_spec.specs.Step.{Tally, State, state, Names, names, namesIn, Seen, seenOf, checkRecord, counted, stored, after, goes, stops, turn, fits, taken, unfit, Stepped, stepped, byTurn, oneStep}
+use Rattle.replay_spec.specs.Step.{State, state, Names, names, namesIn, Seen, seenOf, checkRecord, stored, after, goes, stops, turn, fits, taken, unfit, Stepped, stepped, byTurn, oneStep}
 use Rattle.replay_spec.specs.Step.{refused as step-refused}
 use Rattle.replay_spec.proofs.Steps.{judged, turn-goes, turn-stops, turn-unread, step-by-turn}
-use Rattle.replay_slots.specs.declared.Tally.{Tally as CodeTally}
+use Rattle.tally.specs.declared.Tally.{Tally as CodeTally}
 use Rattle.replay_slots.specs.declared.Decided.{Decided}
 use Rattle.replay_slots.specs.declared.StepAnswer.{StepAnswer}
 use Rattle.replay_slots.specs.Search.{Found, search, namesBy, namesRead}
-use Rattle.replay_slots.specs.Said.{saidOfStep, tallyOf, slotOf}
+use Rattle.replay_slots.specs.Said.{saidOfStep, slotOf}
 
 -- ---- the nodes that bytes name
 

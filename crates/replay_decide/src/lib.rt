@@ -4,27 +4,25 @@ ghost use mathlib.Core.Path.{_≡_};
 ghost use mathlib.Core.List.{List};
 ghost use Prim.Native.Nat.{_<_, _≤_};
 ghost use lib.ListN.{length, set};
-ghost use Rattle.sheet.specs.Editions.{narrow};
-ghost use Rattle.clause.specs.Denote.{literalsOf};
-ghost use Rattle.replay_spec.specs.Slots.{slot, Slot as RowSlot, free, holding};
+ghost use Rattle.sheet.specs.Editions.{narrow, replayRecords};
+ghost use Rattle.tally.specs.Said.{tallyOf};
+ghost use Rattle.replay_spec.specs.Slots.{Slot as RowSlot, free, holding};
 ghost use Rattle.sheet.specs.Denote.{recordOf};
 ghost use Rattle.replay_spec.specs.Step.{Names as Named, namesIn, seenOf, after, state, stepped, taken, oneStep};
 ghost use Rattle.replay_slots.specs.Search.{search, namesRead};
-ghost use Rattle.replay_slots.specs.Said.{saidOfStep, tallyOf, slotOf, namesOf, seenIn, foundOf};
-use clause::Clause;
+ghost use Rattle.replay_slots.specs.Said.{saidOfStep, slotOf, namesOf, seenIn, foundOf};
 use replay_slots::Decided;
 use replay_slots::Found;
 use replay_slots::Names;
 use replay_slots::Seen;
-use replay_slots::Slot;
 use replay_slots::StepAnswer;
-use replay_slots::Tally;
 use sheet::NodeNo;
 use sheet::Reading;
 use sheet::Record;
 use sheet::RecordNo;
 use sheet::SlotNo;
 use sheet::Verdict;
+use tally::Tally;
 
 // The nodes that a record's bytes name; none where they don't read as a record.
 pub fn names_read(bytes: &[u8]) -> Names
@@ -56,31 +54,20 @@ fn unchanged(answer: StepAnswer, t: Tally, count: usize) -> Decided
     }
 }
 
-// A slot in use.
-fn slot_of(node: NodeNo, clause: Clause) -> Slot
-    ensures { λ s. ⌜ slotOf s ≡ slot 1 (node .0) (literalsOf clause) ⌝ }
-{
-    Slot {
-        used: 1,
-        node,
-        clause,
-    }
-}
-
 // "A node takes the lowest free slot, and a drop zeroes its slot."
 fn take_record(t: Tally, r: Record, left: SlotNo, vacant: SlotNo) -> Decided
-    requires { ⌜ (t .next < 1023) × (t .held ≤ t .next) × (t .steps ≤ t .next) ⌝ }
+    requires { ⌜ (t .next < replayRecords narrow) × (t .held ≤ t .next) × (t .steps ≤ t .next) ⌝ }
     ensures { λ d. ⌜ ((slots : List RowSlot) → left .0 ≡ search (holding (namesIn (recordOf r) .left)) slots .at → vacant .0 ≡ search free slots .at → stepped (saidOfStep (d .answer)) (state (tallyOf (d .tally)) (set slots (d .at .0) (slotOf (d .slot)))) ≡ stepped taken (after (state (tallyOf t) slots) (recordOf r))) ⌝ }
 {
-    let tally = replay_verdict::counted(t, r);
+    let then = tally::counted(t, r);
     let node = NodeNo(t.next);
     let answer = StepAnswer::Taken;
     match r {
         Record::Given { line: _, clause } => Decided {
             answer,
-            tally,
+            tally: then,
             at: vacant,
-            slot: slot_of(node, clause),
+            slot: replay_slots::in_use(node, clause),
         },
         Record::Step {
             pivot: _,
@@ -89,13 +76,13 @@ fn take_record(t: Tally, r: Record, left: SlotNo, vacant: SlotNo) -> Decided
             clause,
         } => Decided {
             answer,
-            tally,
+            tally: then,
             at: vacant,
-            slot: slot_of(node, clause),
+            slot: replay_slots::in_use(node, clause),
         },
         Record::Drop(_) => Decided {
             answer,
-            tally,
+            tally: then,
             at: left,
             slot: replay_slots::empty(),
         },

@@ -4,9 +4,11 @@ use mathlib.Core.List.{List}
 use lib.ListN.{getD}
 use Rattle.sheet.specs.Editions.{Edition}
 use Rattle.sheet.specs.Fields.{recordAt}
+use Rattle.tally.specs.Tally.{Tally}
+use Rattle.tally.specs.Said.{tallyOf}
 use Rattle.replay_spec.specs.Slots.{Slot, empty}
-use Rattle.replay_spec.specs.Step.{Tally, State, Step, taken, Stepped, stepped, oneStep}
-use Rattle.replay_slots.specs.Said.{saidOfStep, tallyOf, slotOf}
+use Rattle.replay_spec.specs.Step.{State, Step, taken, Stepped, stepped, oneStep}
+use Rattle.replay_slots.specs.Said.{saidOfStep, slotOf}
 use Rattle.replay_look.specs.declared.Look.{Look as CodeLook}
 
 -- the last record's answer, and the tally and the slots then; with no record, nothing is refused

@@ -4,16 +4,17 @@ ghost use mathlib.Core.Path.{_≡_};
 ghost use Prim.Native.Nat.{_/_, min};
 ghost use lib.ListN.{length, replicate};
 ghost use Rattle.sheet.specs.Editions.{narrow};
+ghost use Rattle.tally.specs.Tally.{nothing};
 ghost use Rattle.replay_spec.specs.Slots.{empty};
-ghost use Rattle.replay_spec.specs.Step.{tally, state, taken};
+ghost use Rattle.replay_spec.specs.Step.{state, taken};
 ghost use Rattle.replay_slots.specs.Said.{rowOf, saidOfStep};
 ghost use Rattle.replay_look.specs.After.{afterRecords, lookAt, lookOf};
 use replay::own;
 use replay_slots::Slot;
 use replay_slots::StepAnswer;
-use replay_slots::Tally;
 use sheet::RecordNo;
 use sheet::SlotNo;
+use tally::Tally;
 
 pub struct Look {
     pub answer: StepAnswer,
@@ -37,10 +38,10 @@ fn untried() -> StepAnswer
 }
 
 fn look_from(sheet: &[u8], rules: &[u8], slots: &mut [Slot], records: usize, at: SlotNo) -> Look
-    ensures { λ r. ⌜ lookOf r ≡ lookAt (at .0) (afterRecords narrow (now (rules .entry)) (now (sheet .entry)) (state (tally 0 0 0 0) (rowOf (now (slots .entry)))) (min records (length (now (sheet .entry)) / 24))) ⌝ }
+    ensures { λ r. ⌜ lookOf r ≡ lookAt (at .0) (afterRecords narrow (now (rules .entry)) (now (sheet .entry)) (state nothing (rowOf (now (slots .entry)))) (min records (length (now (sheet .entry)) / 24))) ⌝ }
 {
     let n = upto(records, sheet.len());
-    let mut t = replay_answer::nothing();
+    let mut t = tally::nothing();
     let mut answer = untried();
     let mut k = 0;
     while k < n {
@@ -58,7 +59,7 @@ fn look_from(sheet: &[u8], rules: &[u8], slots: &mut [Slot], records: usize, at:
 
 // In a row of as many slots, but of at most 1,023.
 pub fn look_after(sheet: &[u8], rules: &[u8], slots: usize, records: usize, at: SlotNo) -> Look
-    ensures { λ r. ⌜ lookOf r ≡ lookAt (at .0) (afterRecords narrow (now (rules .entry)) (now (sheet .entry)) (state (tally 0 0 0 0) (replicate (min slots 1023) empty)) (min records (length (now (sheet .entry)) / 24))) ⌝ }
+    ensures { λ r. ⌜ lookOf r ≡ lookAt (at .0) (afterRecords narrow (now (rules .entry)) (now (sheet .entry)) (state nothing (replicate (min slots 1023) empty)) (min records (length (now (sheet .entry)) / 24))) ⌝ }
 {
     let none = replay_slots::empty();
     let mut row = [none; 1023];

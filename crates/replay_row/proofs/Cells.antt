@@ -37,7 +37,7 @@ abbrev pub fv : Found → Val
 fv = LL.val F.the-type F′.the-laws
 
 abbrev pub blank : Slot
-blank = record { used = 0; node = record { 0 = 0 }; clause = record { positive = record { 0 = 0 }; negative = record { 0 = 0 } } }
+blank = record { used = 0; node = 0; clause = record { positive = record { 0 = 0 }; negative = record { 0 = 0 } } }
 
 pub blank-is : slotOf blank ≡ empty
 blank-is = refl

@@ -4,7 +4,6 @@ use mathlib.Core.List.{List, map}
 use Rattle.clause.specs.Denote.{literalsOf}
 use Rattle.sheet.specs.Reasons.{numberOf}
 use Rattle.replay_slots.specs.declared.Slot.{Slot as CodeSlot}
-use Rattle.replay_slots.specs.declared.Tally.{Tally as CodeTally}
 use Rattle.replay_slots.specs.declared.Found.{Found as CodeFound}
 use Rattle.replay_slots.specs.declared.Sought.{Sought}
 use Rattle.replay_slots.specs.declared.Sought.the-variants as L
@@ -13,14 +12,11 @@ use Rattle.replay_slots.specs.declared.Seen.{Seen as CodeSeen}
 use Rattle.replay_slots.specs.declared.StepAnswer.{StepAnswer}
 use Rattle.replay_slots.specs.declared.StepAnswer.the-variants as S
 use Rattle.replay_spec.specs.Slots.{Slot, slot, free, holding}
-use Rattle.replay_spec.specs.Step.{Tally, tally, Names, names, Seen, Step, taken, refused, unfit}
+use Rattle.replay_spec.specs.Step.{Names, names, Seen, Step, taken, refused, unfit}
 use Rattle.replay_slots.specs.Search.{Found, found}
 
-abbrev pub tallyOf : CodeTally → Tally
-tallyOf t = tally (t .next) (t .held) (t .peak) (t .steps)
-
 abbrev pub slotOf : CodeSlot → Slot
-slotOf s = slot (s .used) (s .node .0) (literalsOf (s .clause))
+slotOf s = slot (s .used) (s .node) (literalsOf (s .clause))
 
 -- the row that a lent slice of slots is
 unfoldable pub rowOf : List CodeSlot → List Slot

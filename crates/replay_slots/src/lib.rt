@@ -1,6 +1,7 @@
-// What a step of the replay works on: slots, the running tally, and what a look through the row has found.
+// What a step of the replay works on: slots, and what a look through the row has found.
 ghost use mathlib.Core.Path.{_≡_};
-ghost use Rattle.replay_spec.specs.Slots.{empty};
+ghost use Rattle.clause.specs.Denote.{literalsOf};
+ghost use Rattle.replay_spec.specs.Slots.{slot, empty, holding};
 ghost use Rattle.replay_slots.specs.Said.{slotOf, soughtIn};
 use clause::Clause;
 use clause::Set;
@@ -8,21 +9,15 @@ use sheet::NodeNo;
 use sheet::Reason;
 use sheet::RecordNo;
 use sheet::SlotNo;
+use tally::Tally;
 
-// A slot of the row: a mark of use (not zero: in use), a node's number, and its clause's two sets. A free slot is all zero.
+// A slot of the row: a mark of use (not zero: in use), a node's number, and its clause's two sets. A free slot is all zero. Each of its
+// 24 bytes belongs to a field, so that zero fields are zero bytes; `in_use` and `holds` alone know that a node's number is wider here.
 #[repr(C)]
 pub struct Slot {
-    pub used: u8,
-    pub node: NodeNo,
+    pub used: u32,
+    pub node: u32,
     pub clause: Clause,
-}
-
-// The running tally: the next node's number, the nodes held, the most held so far, the resolution records taken.
-pub struct Tally {
-    pub next: u16,
-    pub held: u16,
-    pub peak: u16,
-    pub steps: u16,
 }
 
 // One record is taken, or refused, or lent with what no replay within its limit has.
@@ -72,12 +67,29 @@ pub fn empty() -> Slot
 {
     Slot {
         used: 0,
-        node: NodeNo(0),
+        node: 0,
         clause: Clause {
             positive: Set(0),
             negative: Set(0),
         },
     }
+}
+
+// A slot that holds a node.
+pub fn in_use(node: NodeNo, clause: Clause) -> Slot
+    ensures { λ s. ⌜ slotOf s ≡ slot 1 (node .0) (literalsOf clause) ⌝ }
+{
+    Slot {
+        used: 1,
+        node: node.0 as u32,
+        clause,
+    }
+}
+
+fn holds(s: Slot, n: NodeNo) -> bool
+    ensures { λ b. ⌜ b ≡ holding (n .0) (slotOf s) ⌝ }
+{
+    s.used != 0 && s.node == n.0 as u32
 }
 
 // Whether a slot is the one sought.
@@ -86,9 +98,6 @@ pub fn is_sought(s: Slot, sought: Sought) -> bool
 {
     match sought {
         Sought::Free => s.used == 0,
-        Sought::Node(n) => {
-            let node = s.node;
-            s.used != 0 && node.0 == n.0
-        }
+        Sought::Node(n) => holds(s, n),
     }
 }

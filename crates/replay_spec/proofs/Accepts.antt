@@ -19,13 +19,14 @@ use Rattle.sheet.specs.Fields.{reading, recordAt}
 use Rattle.sheet.specs.Counts.{nodesOf, stepsOf, peakFrom, firstOver}
 use Rattle.sheet.specs.Proper.{recordIn, Held, ProperAfter, ReadsAs, Proper, conclusionOf}
 use Rattle.sheet.proofs.Fine.{Lengths}
+use Rattle.tally.specs.Tally.{counted}
 use Rattle.replay_spec.specs.Slots.{Slot, held, clauseHeld, room}
-use Rattle.replay_spec.specs.Step.{State, after, counted, Turn, goes, stops, turn}
+use Rattle.replay_spec.specs.Step.{State, after, Turn, goes, stops, turn}
 use Rattle.replay_spec.specs.Replay.{refused, accepted, ending, run, start, replay}
 use Rattle.replay_spec.proofs.Slots.{inUse-le, length-cleared}
 use Rattle.replay_spec.proofs.Steps.{turn-stops, turn-went, run-goes, run-stops, replay-runs, accepted-lengths, afterSteps, replay-ends, replay-stops}
 use Rattle.replay_spec.proofs.Runs.{first-over, Follows, follows-each}
-use Rattle.replay_spec.proofs.Mirrors.{Mirrors, start-mirrors, Roomy, length-after, room-counted, after-mirrors, proper-full, fine-proper, so-far}
+use Rattle.replay_spec.proofs.Mirrors.{Mirrors, numbered, counts, peaks, stepped, start-mirrors, Roomy, length-after, room-counted, after-mirrors, proper-full, fine-proper, so-far}
 
 -- ---- the end
 
@@ -50,9 +51,9 @@ mirrored-ending : (k : ℕ) (rs : List Record) (s : State) → Mirrors rs s → 
     → ending k s ≡ accepted (conclusionOf rs) (length (nodesOf rs)) (stepsOf (nodesOf rs)) (peakFrom 0 rs)
 mirrored-ending k rs s m h =
     let last = length (nodesOf rs) - 1 in
-    let is : s .tally .next - 1 ≡ last = ap (λ (n : ℕ). n - 1) (m .numbered) in
+    let is : s .tally .next - 1 ≡ last = ap (λ (n : ℕ). n - 1) (numbered m) in
     ending-held k s (rw is (m .all last h))
-    ∙ (λ i. accepted ((ap (λ (n : ℕ). clauseHeld n (s .slots)) is ∙ m .clauses last h) i) (m .numbered i) (m .stepped i) (m .peaks i))
+    ∙ (λ i. accepted ((ap (λ (n : ℕ). clauseHeld n (s .slots)) is ∙ m .clauses last h) i) (numbered m i) (stepped m i) (peaks m i))
 
 -- ---- a proper sheet
 
@@ -79,7 +80,7 @@ module _ (e : Edition) (sheet rules : List ℕ) (slots : List Slot) (rs : List R
       let (x, is) = o .new in
       let p : ProperAfter e rules (take k rs) (node x) = rw is at (proper .each k (o .inside)) in
       let full : room (s .slots) ≡ false =
-      room-counted (take k rs) s m ∙ le-ltb (s .tally .held) (length (s .slots)) (omega (arith, y .sized, m .counts, o .full)) in
+      room-counted (take k rs) s m ∙ le-ltb (s .tally .held) (length (s .slots)) (omega (arith, y .sized, counts m, o .full)) in
       replay-stops e sheet rules slots (length rs) lengths k (o .inside) (y .first) Full
       (turn-stops e rules (recordAt e sheet k) s (node x) Full (proper .read .each k (o .inside) ∙ ap reads is) (proper-full e rules (take k rs) s m x p full))
 
@@ -105,7 +106,7 @@ module _ (e : Edition) (sheet rules : List ℕ) (c : Literals) (nodes steps peak
         read = λ j h. absurd (omega arith);
         follows = tt;
         fits = omega arith;
-        ends = rw (append-nil done) (rw (m .numbered) at last);
+        ends = rw (append-nil done) (rw (numbered m) at last);
       }
 
   -- a record more in front

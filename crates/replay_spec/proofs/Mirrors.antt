@@ -22,18 +22,17 @@ use Rattle.sheet.specs.Counts.{nodesOf, stepsOf, peakFrom}
 use Rattle.sheet.specs.Proper.{recordIn, clauseIn, Held, ProperAfter}
 use Rattle.sheet.proofs.Reasons.{unless-fine, fine-unless, andThen-fine, fine-andThen}
 use Rattle.sheet.proofs.Fine.{Lengths, fine-earlier, step-fine, fine-step, given-fine, fine-given}
+use Rattle.tally.specs.Tally.{Tally, nothing, counted, tallied}
+use Rattle.tally.proofs.Tallied.{heldFrom, Counts, tallied-counts, tallied-more}
 use Rattle.replay_spec.specs.Slots.{Slot, held, clauseHeld, room}
-use Rattle.replay_spec.specs.Step.{State, names, namesIn, seenOf, checkNames, checkRoom, checkRecord, counted, stored, after}
+use Rattle.replay_spec.specs.Step.{State, names, namesIn, seenOf, checkNames, checkRoom, checkRecord, stored, after}
 use Rattle.replay_spec.specs.Replay.{start}
 use Rattle.replay_spec.proofs.Slots.{either-way, length-hold, length-release, length-cleared, held-cleared, held-hold, clause-hold, held-hold-other, clause-hold-other, Once, once-cleared, once-hold, held-release, held-release-other, clause-release-other, once-release, inUse, room-when-fewer, inUse-cleared, inUse-hold, inUse-release}
 use Rattle.replay_spec.proofs.Steps.{judged, turn-goes, afterSteps, FirstTaken, taken-more}
-use Rattle.replay_spec.proofs.Runs.{nodes-node, nodes-drop, count-node, steps-append, heldFrom, heldFrom-append, peakFrom-append, heldFrom-le, clause-before, clause-new, held-still, held-before, last-dropped, DropsEarlier, drops-more, held-new}
+use Rattle.replay_spec.proofs.Runs.{nodes-drop, count-node, peakFrom-append, clause-before, clause-new, held-still, held-before, last-dropped, DropsEarlier, drops-more, held-new}
 
 pub record Mirrors (done : List Record) (s : State) : Type 0 where
-  pub numbered : s .tally .next ≡ length (nodesOf done)
-  pub counts : s .tally .held ≡ heldFrom 0 done
-  pub peaks : s .tally .peak ≡ peakFrom 0 done
-  pub stepped : s .tally .steps ≡ stepsOf (nodesOf done)
+  pub tallies : s .tally ≡ tallied done nothing
   pub used : inUse (s .slots) ≡ s .tally .held
   pub once : Once (s .slots)
   pub earlier : DropsEarlier done
@@ -41,14 +40,28 @@ pub record Mirrors (done : List Record) (s : State) : Type 0 where
   pub all : (n : ℕ) → Held done n → held n (s .slots) ≡ true
   pub clauses : (n : ℕ) → Held done n → clauseHeld n (s .slots) ≡ clauseIn done n
 
+-- what its tally says
+module _ {done : List Record} {s : State} (m : Mirrors done s) where
+  says : Counts done nothing (s .tally)
+  says = rw (m .tallies) (tallied-counts done nothing (omega arith))
+
+  pub numbered : s .tally .next ≡ length (nodesOf done)
+  numbered = says .next ∙ omega arith
+
+  pub counts : s .tally .held ≡ heldFrom 0 done
+  counts = says .held
+
+  pub peaks : s .tally .peak ≡ peakFrom 0 done
+  peaks = says .peak ∙ omega arith
+
+  pub stepped : s .tally .steps ≡ stepsOf (nodesOf done)
+  stepped = says .steps ∙ omega arith
+
 pub start-mirrors : (slots : List Slot) → Mirrors [] (start slots)
-unfolding start nodesOf stepsOf peakFrom heldFrom
+unfolding start nodesOf tallied
 start-mirrors slots =
     record {
-      numbered = refl;
-      counts = refl;
-      peaks = refl;
-      stepped = refl;
+      tallies = refl;
       used = inUse-cleared slots;
       once = once-cleared slots;
       earlier = λ k h n e. omega arith;
@@ -64,30 +77,30 @@ module _ (done : List Record) (s : State) (m : Mirrors done s) where
   pub room-counted : room (s .slots) ≡ ltb (s .tally .held) (length (s .slots))
   room-counted = room-when-fewer (s .slots) ∙ ap (λ (k : ℕ). ltb k (length (s .slots))) (m .used)
 
+  tallied-on : (r : Record) → counted (s .tally) r ≡ tallied (done ++ (r ∷ [])) nothing
+  tallied-on r = ap (λ (t : Tally). counted t r) (m .tallies) ∙ sym (tallied-more done r nothing)
+
   -- ---- a node
 
   module _ (x : Node) where
     -- what is held after it was held before, or is the new node
     held-or-new : (n : ℕ) → Held (done ++ (node x ∷ [])) n → n ≢ s .tally .next → Held done n
-    held-or-new n h d = held-before done (node x) n h (omega (arith, h .0, count-node done x, m .numbered))
+    held-or-new n h d = held-before done (node x) n h (omega (arith, h .0, count-node done x, numbered m))
 
     pub node-mirrors : room (s .slots) ≡ true → Mirrors (done ++ (node x ∷ [])) (after s (node x))
-    unfolding after counted stored heldFrom peakFrom stepsOf
+    unfolding after counted stored
     node-mirrors e =
         let k = s .tally .next in
         let c = clause x in
         let row = s .slots in
-        let fresh : held k row ≡ false = not-shown k (λ h. omega (arith, h .0, m .numbered)) in
+        let fresh : held k row ≡ false = not-shown k (λ h. omega (arith, h .0, numbered m)) in
         record {
-          numbered = omega (arith, m .numbered, count-node done x);
-          counts = omega (arith, m .counts, heldFrom-append 0 done (node x ∷ []));
-          peaks = omega (arith, m .counts, m .peaks, peakFrom-append 0 done (node x ∷ []));
-          stepped = omega (arith, m .stepped, ap stepsOf (nodes-node done x), steps-append (nodesOf done) (x ∷ []));
+          tallies = tallied-on (node x);
           used = omega (arith, inUse-hold k c row e, m .used);
           once = once-hold k c row fresh (m .once);
           earlier = drops-more done (node x) (m .earlier) (λ n q. let z : _≡_ {A = ℕ} 0 1 = cc in absurd (omega arith));
           only = λ n h. elim (ℕ-discrete n k) [
-            | yes q ↦ rw (q, m .numbered) (held-new done x (m .earlier))
+            | yes q ↦ rw (q, numbered m) (held-new done x (m .earlier))
             | no q ↦ held-still done (node x) n (m .only n (sym (held-hold-other k c n q row) ∙ h)) (λ d. let z : _≡_ {A = ℕ} 0 1 = cc in omega arith)
           ];
           all = λ n h. elim (ℕ-discrete n k) [
@@ -95,7 +108,7 @@ module _ (done : List Record) (s : State) (m : Mirrors done s) where
             | no q ↦ held-hold-other k c n q row ∙ m .all n (held-or-new n h q)
           ];
           clauses = λ n h. elim (ℕ-discrete n k) [
-            | yes q ↦ rw q (clause-hold k c row e fresh ∙ rw (m .numbered) (sym (clause-new done x)))
+            | yes q ↦ rw q (clause-hold k c row e fresh ∙ rw (numbered m) (sym (clause-new done x)))
             | no q ↦
                 let b = held-or-new n h q in
                 clause-hold-other k c n q row ∙ m .clauses n b ∙ sym (clause-before done (node x) n (b .0))
@@ -105,17 +118,14 @@ module _ (done : List Record) (s : State) (m : Mirrors done s) where
   -- ---- a drop
 
   pub drop-mirrors : (n : ℕ) → Held done n → Mirrors (done ++ (drop n ∷ [])) (after s (drop n))
-  unfolding after counted stored heldFrom peakFrom stepsOf
+  unfolding after counted stored
   drop-mirrors n h =
       let row = s .slots in
       let nodes = nodes-drop done n in
       let back : (j : ℕ) → Held (done ++ (drop n ∷ [])) j → Held done j = λ j i. held-before done (drop n) j i (omega (arith, i .0, ap length nodes)) in
       let other : (j : ℕ) → Held (done ++ (drop n ∷ [])) j → j ≢ n = λ j i q. last-dropped done (drop n) j i (ap drop (sym q)) in
       record {
-        numbered = omega (arith, m .numbered, ap length nodes);
-        counts = omega (arith, m .counts, heldFrom-append 0 done (drop n ∷ []));
-        peaks = omega (arith, m .peaks, peakFrom-append 0 done (drop n ∷ []), heldFrom-le 0 done);
-        stepped = omega (arith, m .stepped, ap stepsOf nodes);
+        tallies = tallied-on (drop n);
         used = omega (arith, inUse-release n row (m .all n h), m .used);
         once = once-release n row (m .once);
         earlier = drops-more done (drop n) (m .earlier) (λ j q. let z : n ≡ j = cc in omega (arith, h .0));
@@ -148,8 +158,8 @@ module _ (e : Edition) (rules : List ℕ) (done : List Record) (s : State) (m : 
   fine-names : (l r : ℕ) → Held done l → Held done r → checkNames (s .tally .next) (names l r) (seenOf (s .slots) (names l r)) ≡ Fine
   unfolding checkNames seenOf
   fine-names l r p q =
-      fine-andThen _ _ (fine-earlier (s .tally .next) l (omega (arith, p .0, m .numbered)))
-      (fine-andThen _ _ (fine-earlier (s .tally .next) r (omega (arith, q .0, m .numbered)))
+      fine-andThen _ _ (fine-earlier (s .tally .next) l (omega (arith, p .0, numbered m)))
+      (fine-andThen _ _ (fine-earlier (s .tally .next) r (omega (arith, q .0, numbered m)))
       (fine-unless _ Dropped _ (m .all l p) (fine-unless _ Dropped Fine (m .all r q) refl)))
 
   names-fine : (l r : ℕ) → checkNames (s .tally .next) (names l r) (seenOf (s .slots) (names l r)) ≡ Fine → Held done l × Held done r
@@ -212,7 +222,7 @@ module _ (e : Edition) (sheet rules : List ℕ) (slots : List Slot) (rs : List R
       let s = afterSteps e rules sheet (start slots) k in
       let m = y .mirrors in
       room-counted (take k rs) s m
-      ∙ lt-ltb (s .tally .held) (length (s .slots)) (omega (arith, m .counts, y .sized, peakFrom-append 0 (take k rs) (node x ∷ [])))
+      ∙ lt-ltb (s .tally .held) (length (s .slots)) (omega (arith, counts m, y .sized, peakFrom-append 0 (take k rs) (node x ∷ [])))
   roomy k (drop n) y h = tt
 
   one-more : (k : ℕ) → k < length rs → peakFrom 0 (take k rs ++ (recordIn rs k ∷ [])) ≤ length slots → Sofar k → Sofar (suc k)

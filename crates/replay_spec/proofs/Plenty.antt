@@ -18,8 +18,9 @@ use Rattle.sheet.specs.Fields.{reading, recordAt}
 use Rattle.sheet.specs.Checks.{checkLengths}
 use Rattle.sheet.proofs.Reasons.{unless-fine, andThen-fine}
 use Rattle.sheet.proofs.Fine.{lengths-fine}
+use Rattle.tally.specs.Tally.{counted}
 use Rattle.replay_spec.specs.Slots.{Slot, empty, held, room, cleared}
-use Rattle.replay_spec.specs.Step.{State, state, Names, namesIn, Seen, seenOf, checkNames, checkRecord, counted, stored, after, Turn, goes, stops, byReading, byVerdict, turn}
+use Rattle.replay_spec.specs.Step.{State, state, Names, namesIn, Seen, seenOf, checkNames, checkRecord, stored, after, Turn, goes, stops, byReading, byVerdict, turn}
 use Rattle.replay_spec.specs.Replay.{ending, run, start, byLengths, replay}
 use Rattle.replay_spec.proofs.Slots.{inUse, room-when-fewer, inUse-cleared, inUse-hold, inUse-release, length-cleared, held-more, clause-more, cleared-append, room-more, hold-more, release-more}
 use Rattle.replay_spec.proofs.Steps.{judged, turn-goes, turn-went, run-goes, run-stops, Within, within-counted}

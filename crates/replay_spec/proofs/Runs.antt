@@ -3,7 +3,7 @@
 use mathlib.Core.Path.{_≡_, refl, ap, _∙_}
 use mathlib.Core.Bool.{Bool, true, false, cond}
 use mathlib.Core.List.{List, [], _∷_, _++_, append-nil}
-use Prim.Native.Nat.{ℕ, zero, suc, _+_, _-_, _≤_, _<_, max}
+use Prim.Native.Nat.{ℕ, zero, suc, _-_, _≤_, _<_, max}
 use native.Mathlib.Nat.{not-suc-le-zero, le-of-suc-le-suc, zero-lt-suc}
 use native.Mathlib.Decide.{decLt}
 use native.Mathlib.Omega.{arith}
@@ -14,7 +14,8 @@ use borrow.Author.Tests.{ltb-true, ltb-false}
 use Rattle.clause.specs.Clauses.{none}
 use Rattle.sheet.specs.Editions.{Edition}
 use Rattle.sheet.specs.Records.{Node, given, Record, node, drop, clause, nodeAt}
-use Rattle.sheet.specs.Counts.{nodesOf, stepOf, stepsOf, peakFrom, firstOver}
+use Rattle.sheet.specs.Counts.{nodesOf, peakFrom, firstOver}
+use Rattle.tally.proofs.Tallied.{heldFrom}
 use Rattle.sheet.specs.Proper.{recordIn, clauseIn, Held, ProperAfter}
 
 -- ---- nodes, steps, the number held, peak
@@ -40,34 +41,11 @@ pub count-grows : (rs : List Record) (r : Record) → length (nodesOf rs) ≤ le
 count-grows rs (node x) = omega (arith, count-node rs x)
 count-grows rs (drop n) = omega (arith, ap length (nodes-drop rs n))
 
-pub steps-append : (xs ys : List Node) → stepsOf (xs ++ ys) ≡ stepsOf xs + stepsOf ys
-unfolding stepsOf
-steps-append [] ys = omega arith
-steps-append (x ∷ xs) ys = ap (λ (k : ℕ). stepOf x + k) (steps-append xs ys) ∙ omega arith
-
--- the number of nodes held after a run, with so many before it
-unfoldable pub heldFrom : ℕ → List Record → ℕ
-heldFrom h [] = h
-heldFrom h (node n ∷ rs) = heldFrom (suc h) rs
-heldFrom h (drop n ∷ rs) = heldFrom (h - 1) rs
-
-pub heldFrom-append : (h : ℕ) (xs ys : List Record) → heldFrom h (xs ++ ys) ≡ heldFrom (heldFrom h xs) ys
-unfolding heldFrom
-heldFrom-append h [] ys = refl
-heldFrom-append h (node n ∷ xs) ys = heldFrom-append (suc h) xs ys
-heldFrom-append h (drop n ∷ xs) ys = heldFrom-append (h - 1) xs ys
-
 pub peakFrom-append : (h : ℕ) (xs ys : List Record) → peakFrom h (xs ++ ys) ≡ max (peakFrom h xs) (peakFrom (heldFrom h xs) ys)
 unfolding heldFrom peakFrom
 peakFrom-append h [] ys = omega arith
 peakFrom-append h (node n ∷ xs) ys = omega (arith, peakFrom-append (suc h) xs ys)
 peakFrom-append h (drop n ∷ xs) ys = omega (arith, peakFrom-append (h - 1) xs ys)
-
-pub heldFrom-le : (h : ℕ) (rs : List Record) → heldFrom h rs ≤ max h (peakFrom h rs)
-unfolding heldFrom peakFrom
-heldFrom-le h [] = omega arith
-heldFrom-le h (node n ∷ rs) = omega (arith, heldFrom-le (suc h) rs)
-heldFrom-le h (drop n ∷ rs) = omega (arith, heldFrom-le (h - 1) rs)
 
 -- ---- the first record with too many held
 

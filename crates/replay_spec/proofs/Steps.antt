@@ -21,8 +21,9 @@ use Rattle.sheet.specs.Fields.{reading, recordAt}
 use Rattle.sheet.specs.Counts.{stepOf}
 use Rattle.sheet.specs.Checks.{checkTable, checkLengths}
 use Rattle.sheet.proofs.Fine.{Lengths, lengths-fine, fine-lengths, fine-table}
+use Rattle.tally.specs.Tally.{Tally, counted}
 use Rattle.replay_spec.specs.Slots.{Slot}
-use Rattle.replay_spec.specs.Step.{Tally, State, seenOf, namesIn, checkRecord, counted, after, Turn, goes, stops, byVerdict, byReading, turn, passes, reached, fits, Stepped, stepped, Step, taken, unfit, byTurn, oneStep}
+use Rattle.replay_spec.specs.Step.{State, seenOf, namesIn, checkRecord, after, Turn, goes, stops, byVerdict, byReading, turn, passes, reached, fits, Stepped, stepped, Step, taken, unfit, byTurn, oneStep}
 use Rattle.replay_spec.specs.Step.{refused as step-refused}
 use Rattle.replay_spec.specs.Replay.{refused, accepted, ending, run, start, byLengths, replay}
 

@@ -11,8 +11,9 @@ use Rattle.sheet.specs.Editions.{Edition, recordBytes, replayRecords}
 use Rattle.sheet.specs.Reasons.{numberOf}
 use Rattle.sheet.specs.Fields.{recordAt}
 use Rattle.sheet.specs.Checks.{checkLengths}
+use Rattle.tally.specs.Tally.{nothing}
 use Rattle.replay_spec.specs.Slots.{Slot, held, clauseHeld, cleared}
-use Rattle.replay_spec.specs.Step.{tally, State, state, goes, stops, turn}
+use Rattle.replay_spec.specs.Step.{State, state, goes, stops, turn}
 
 -- the paper's number and record of a refusal; conclusion, nodes, steps and peak of a result
 pub data Answer : Type 0 where
@@ -32,7 +33,7 @@ run e rules sheet (suc m) k s =
     elim (turn e rules (recordAt e sheet k) s) [ goes t ↦ run e rules sheet m (suc k) t | stops why ↦ refused (numberOf why) k ]
 
 unfoldable pub start : List Slot → State
-start slots = state (tally 0 0 0 0) (cleared slots)
+start slots = state nothing (cleared slots)
 
 pub record Outcome : Type 0 where
   pub answer : Answer

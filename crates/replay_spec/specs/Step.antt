@@ -1,5 +1,5 @@
 -- One record of the replay: the tally and the slots before it, what is refused, and the tally and the slots after it.
-use Prim.Native.Nat.{ℕ, _+_, _-_, max}
+use Prim.Native.Nat.{ℕ}
 use mathlib.Core.Bool.{Bool, true, false, _&&_, cond}
 use mathlib.Core.List.{List}
 use lib.Dec.{eqb, ltb, leb}
@@ -13,19 +13,9 @@ use Rattle.sheet.specs.Editions.{Edition, recordBytes, replayRecords}
 use Rattle.sheet.specs.Reasons.{numberOf, unless, andThen}
 use Rattle.sheet.specs.Records.{given, step, Record, node, drop, clause, Reading, reads, unread}
 use Rattle.sheet.specs.Fields.{reading}
-use Rattle.sheet.specs.Counts.{stepOf}
 use Rattle.sheet.specs.Checks.{checkTable, checkEarlier, checkStep, checkGiven}
+use Rattle.tally.specs.Tally.{Tally, counted}
 use Rattle.replay_spec.specs.Slots.{Slot, held, clauseHeld, room, hold, release}
-
--- "One small running tally: next node, held, peak, steps."
-pub record Tally : Type 0 where
-  pub next : ℕ
-  pub held : ℕ
-  pub peak : ℕ
-  pub steps : ℕ
-
-abbrev pub tally : ℕ → ℕ → ℕ → ℕ → Tally
-tally n h p s = record { next = n; held = h; peak = p; steps = s }
 
 pub record State : Type 0 where
   pub tally : Tally
@@ -81,12 +71,7 @@ checkRecord e rules next seen (node (step p l r c)) =
     andThen (checkNames next (names l r) seen) (andThen (checkStep p (seen .left) (seen .right) c) (checkRoom seen))
 checkRecord e rules next seen (drop n) = checkNames next (names n n) seen
 
--- the tally after a record that is taken
-unfoldable pub counted : Tally → Record → Tally
-counted t (node n) = tally (t .next + 1) (t .held + 1) (max (t .peak) (t .held + 1)) (t .steps + stepOf n)
-counted t (drop n) = tally (t .next) (t .held - 1) (t .peak) (t .steps)
-
--- the slots after it
+-- the slots after a record that is taken
 unfoldable pub stored : ℕ → Record → List Slot → List Slot
 stored next (node n) slots = hold next (clause n) slots
 stored next (drop n) slots = release n slots

@@ -12,8 +12,9 @@ use Rattle.sheet.specs.Checks.{checkLengths}
 use Rattle.sheet.specs.Fields.{recordAt}
 use Rattle.sheet.proofs.RecordBytes.{lent, lent-is}
 use Rattle.sheet.proofs.Fine.{Lengths, lengths-fine}
+use Rattle.tally.specs.Tally.{Tally, nothing}
 use Rattle.replay_spec.specs.Slots.{Slot}
-use Rattle.replay_spec.specs.Step.{Tally, tally, State, state, Step, taken, unfit, Stepped, stepped, oneStep, refused as step-refused}
+use Rattle.replay_spec.specs.Step.{State, state, Step, taken, unfit, Stepped, stepped, oneStep, refused as step-refused}
 use Rattle.replay_spec.specs.Replay.{run, ending}
 use Rattle.replay_spec.proofs.Steps.{Within, step-goes-on, step-refuses, step-fits}
 use Rattle.replay_answer.specs.Answers.{isTaken, stoppedBy}
@@ -23,7 +24,7 @@ pub record Goes (rules sheet : List ℕ) (s₀ : State) (k : ℕ) (s : State) : 
   pub within : Within k (s .tally)
   pub left : (m : ℕ) → k + m ≡ length sheet / 24 → run narrow rules sheet (length sheet / 24) 0 s₀ ≡ run narrow rules sheet m k s
 
-pub goes-none : (rules sheet : List ℕ) (slots : List Slot) (t : Tally) → t ≡ tally 0 0 0 0 → Goes rules sheet (state (tally 0 0 0 0) slots) 0 (state t slots)
+pub goes-none : (rules sheet : List ℕ) (slots : List Slot) (t : Tally) → t ≡ nothing → Goes rules sheet (state nothing slots) 0 (state t slots)
 goes-none rules sheet slots t q =
     rw q (record { within = omega arith; left = λ m o. let e : m ≡ length sheet / 24 = omega arith in rw e })
 

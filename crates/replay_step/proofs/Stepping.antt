@@ -44,13 +44,14 @@ use Rattle.sheet.specs.declared.RecordNo.{RecordNo}
 use Rattle.sheet.specs.Editions.{narrow}
 use Rattle.sheet.proofs.RecordNo as R
 use Rattle.sheet.proofs.RecordNo.Laws as R′
+use Rattle.tally.specs.Said.{tallyOf}
 use Rattle.replay_spec.specs.Step.{state, stepped, oneStep}
 use Rattle.replay_slots.specs.declared.Slot.{Slot}
-use Rattle.replay_slots.specs.declared.Tally.{Tally}
+use Rattle.tally.specs.declared.Tally.{Tally}
 use Rattle.replay_slots.specs.declared.StepAnswer.{StepAnswer}
-use Rattle.replay_slots.specs.Said.{saidOfStep, tallyOf, rowOf}
+use Rattle.replay_slots.specs.Said.{saidOfStep, rowOf}
 use Rattle.replay_slots.proofs.Slot as T
-use Rattle.replay_slots.proofs.Tally as Y
+use Rattle.tally.proofs.Tally as Y
 use Rattle.replay_slots.proofs.StepAnswer as S
 use Rattle.replay_slots.proofs.StepAnswer.Laws as S′
 use Rattle.sheet.proofs.RecordBytes.{lent}

@@ -13,13 +13,13 @@ use Rattle.sheet.proofs.RecordNo as R
 use Rattle.sheet.proofs.RecordNo.Laws as R′
 use Rattle.sheet.proofs.Verdict as J
 use Rattle.sheet.proofs.Verdict.Laws as J′
-use Rattle.replay_slots.specs.declared.Tally.{Tally}
+use Rattle.tally.specs.declared.Tally.{Tally}
 use Rattle.replay_slots.specs.declared.Decided.{Decided}
 use Rattle.replay_slots.specs.declared.Sought.the-variants.{Free, Node}
 use Rattle.replay_slots.specs.declared.StepAnswer.{StepAnswer}
 use Rattle.replay_slots.specs.declared.Names.{Names}
-use Rattle.replay_slots.proofs.Tally as Y
-use Rattle.replay_slots.proofs.Tally.Laws as Y′
+use Rattle.tally.proofs.Tally as Y
+use Rattle.tally.proofs.Tally.Laws as Y′
 use Rattle.replay_slots.proofs.Decided as D
 use Rattle.replay_slots.proofs.Decided.Laws as D′
 use Rattle.replay_slots.proofs.Sought as K

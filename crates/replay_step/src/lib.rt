@@ -1,13 +1,14 @@
 // One step of the replay, over a lent row of slots; the running tally is lent to each step and changed in place.
 ghost use mathlib.Core.Path.{_≡_};
 ghost use Rattle.sheet.specs.Editions.{narrow};
+ghost use Rattle.tally.specs.Said.{tallyOf};
 ghost use Rattle.replay_spec.specs.Step.{state, stepped, oneStep};
-ghost use Rattle.replay_slots.specs.Said.{saidOfStep, tallyOf, rowOf};
+ghost use Rattle.replay_slots.specs.Said.{saidOfStep, rowOf};
 use replay_slots::Slot;
 use replay_slots::Sought;
 use replay_slots::StepAnswer;
-use replay_slots::Tally;
 use sheet::RecordNo;
+use tally::Tally;
 
 // One record: it is looked up, decided on, put into the row or out of it, and counted.
 pub fn step(

@@ -1,18 +1,18 @@
-// What is wrong with a record that reads (9 to 15), the tally after one that is taken, and whether a step is lent what a replay has.
+// What is wrong with a record that reads (9 to 15), and whether a step is lent what a replay has.
 ghost use mathlib.Core.Path.{_≡_};
-ghost use Prim.Native.Nat.{_+_, _-_, _<_, _≤_, max};
 ghost use Rattle.sheet.specs.Reasons.{andThen};
 ghost use Rattle.sheet.specs.Editions.{narrow};
 ghost use Rattle.sheet.specs.Denote.{recordOf};
-ghost use Rattle.replay_spec.specs.Step.{tally, namesIn, checkNames, checkRoom, checkRecord, counted, reached, fits};
-ghost use Rattle.replay_slots.specs.Said.{tallyOf, namesOf, seenIn};
+ghost use Rattle.tally.specs.Said.{tallyOf};
+ghost use Rattle.replay_spec.specs.Step.{namesIn, checkNames, checkRoom, checkRecord, reached, fits};
+ghost use Rattle.replay_slots.specs.Said.{namesOf, seenIn};
 use replay_slots::Names;
 use replay_slots::Seen;
-use replay_slots::Tally;
 use sheet::NodeNo;
 use sheet::Reason;
 use sheet::Record;
 use sheet::Verdict;
+use tally::Tally;
 
 pub fn names_in(r: Record) -> Names
     ensures { λ ns. ⌜ namesOf ns ≡ namesIn (recordOf r) ⌝ }
@@ -91,49 +91,6 @@ pub fn check_record(rules: &[u8], next: NodeNo, seen: Seen, r: Record) -> Verdic
             and_then(check_names(next, Names { left, right }, seen), stepped)
         }
         Record::Drop(n) => check_names(next, Names { left: n, right: n }, seen),
-    }
-}
-
-// The tally after a node, which is a step or (0) is none.
-fn with_node(t: Tally, steps: u16) -> Tally
-    requires { ⌜ (t .next < 1023) × (t .held ≤ t .next) × (t .steps ≤ t .next) × (steps ≤ 1) ⌝ }
-    ensures { λ u. ⌜ tallyOf u ≡ tally (t .next + 1) (t .held + 1) (max (t .peak) (t .held + 1)) (t .steps + steps) ⌝ }
-{
-    let held = t.held + 1;
-    Tally {
-        next: t.next + 1,
-        held,
-        peak: base::larger(t.peak, held),
-        steps: t.steps + steps,
-    }
-}
-
-fn without_node(t: Tally) -> Tally
-    ensures { λ u. ⌜ tallyOf u ≡ tally (t .next) (t .held - 1) (t .peak) (t .steps) ⌝ }
-{
-    let held = if t.held == 0 { 0 } else { t.held - 1 };
-    Tally {
-        next: t.next,
-        held,
-        peak: t.peak,
-        steps: t.steps,
-    }
-}
-
-// The tally after a record that is taken.
-pub fn counted(t: Tally, r: Record) -> Tally
-    requires { ⌜ (t .next < 1023) × (t .held ≤ t .next) × (t .steps ≤ t .next) ⌝ }
-    ensures { λ u. ⌜ tallyOf u ≡ counted (tallyOf t) (recordOf r) ⌝ }
-{
-    match r {
-        Record::Given { line: _, clause: _ } => with_node(t, 0),
-        Record::Step {
-            pivot: _,
-            left: _,
-            right: _,
-            clause: _,
-        } => with_node(t, 1),
-        Record::Drop(_) => without_node(t),
     }
 }
 

@@ -54,7 +54,8 @@ use Rattle.sheet_checks.proofs.check_lengths as lengths′
 use Rattle.sheet_checks.proofs.check_lengths.Symbol as lengths-def
 use Rattle.sheet_checks.proofs.check_lengths.Symbol.{name as #lengths}
 use Rattle.sheet_checks.proofs.check_lengths.Met as lengths-thm
-use Rattle.replay_spec.specs.Step.{state, tally, passes}
+use Rattle.tally.specs.Tally.{nothing}
+use Rattle.replay_spec.specs.Step.{state, passes}
 use Rattle.replay_spec.specs.Replay.{refused, outcome, replay, run as runs-to}
 use Rattle.replay_slots.specs.declared.Slot.{Slot}
 use Rattle.replay_slots.specs.Said.{rowOf}
@@ -152,7 +153,7 @@ module _ {M : Type 1} (𝓤 : URA M) (H : Heap 𝓤) (A : Atoms 𝓤) (W : Given
           assigns ! (addr ! (from ! (fld ! refl (hop ! (look-in ! 32 (sub ! 0 refl (whole !))) (stop !))))) (from ! (stop !)) (init ! 14 refl (tt, tt)) $
           assigns ! (agg ! (and-then ! (load ! (from ! (stop !)) (look ! 14 refl)) (and-then ! (load ! (from ! (fld ! refl (stop !))) (look-in ! 32 (sub ! 1 refl (whole !)))) (no-more !)))) (from ! (stop !)) (init ! 12 refl (tt, (tt, (record { fits = room-at T.the-row (cleared-length (slots .now) zs₁ e₁) room .0 }, tt)))) $
           call-with-row ! fm (Run 𝓤 H A at-mem run) (known .runs-it) T.the-row sheet rules zs₁ (slots .b) (slots .o) (room-at T.the-row (cleared-length (slots .now) zs₁ e₁) room) (λ ν δ. (passed sheet rules (lent-for T.the-row zs₁ (slots .b) (slots .o) ν δ) tt tt, tt)) ftrue (id⊢ 𝓤 _) (λ ν δ. beside 𝓤 (fine-is verdict pass))
-          B.the-row answer-val (EL.tells B.the-type B′.the-laws) {X = Unit {0} × (Unit {0} × (List Slot × Unit {0}))} (λ ws. ws .1 .1 .0) ftrue (λ r zs. (said r ≡ runs-to narrow (rules .now) (sheet .now) (length (sheet .now) / 24) 0 (state (tally 0 0 0 0) (rowOf zs₁))) × (length zs ≡ length zs₁)) (λ ν δ w. id⊢ 𝓤 _)
+          B.the-row answer-val (EL.tells B.the-type B′.the-laws) {X = Unit {0} × (Unit {0} × (List Slot × Unit {0}))} (λ ws. ws .1 .1 .0) ftrue (λ r zs. (said r ≡ runs-to narrow (rules .now) (sheet .now) (length (sheet .now) / 24) 0 (state nothing (rowOf zs₁))) × (length zs ≡ length zs₁)) (λ ν δ w. id⊢ 𝓤 _)
           (λ ν δ. (and-then ! (load ! (from ! (stop !)) (look ! 33 refl)) (and-then ! (load ! (from ! (stop !)) (look ! 31 refl)) (and-then ! (load ! (from ! (stop !)) (look ! 9 refl)) (no-more !))))) (λ r zs₂ _ e₂ gr.
           -- [the row 0; sheet's token 1; rules's 2; its open borrow 3; obs 4; auth 5; locals from 6]
           land ! (from ! (stop !)) (init ! 26 refl (EL.lawful B.the-type B′.the-laws 𝓤 H A W tt .typed r _ gr .0)) $ forget ! 12 refl $ forget ! 10 refl $

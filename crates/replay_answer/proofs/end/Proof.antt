@@ -7,8 +7,9 @@ use lib.ListN.{length}
 use borrow.Author.Tests.{lt-ltb, le-ltb}
 use Rattle.sheet.specs.declared.Reason.the-variants.{NotHeld}
 use Rattle.sheet.specs.Reasons.{numberOf}
+use Rattle.tally.specs.Tally.{Tally}
 use Rattle.replay_spec.specs.Slots.{Slot, holding, held, clauseHeld}
-use Rattle.replay_spec.specs.Step.{Tally, state}
+use Rattle.replay_spec.specs.Step.{state}
 use Rattle.replay_spec.specs.Replay.{accepted, refused, ending}
 use Rattle.replay_slots.specs.Search.{Found, found, search}
 use Rattle.replay_answer.specs.Answers.{said}

@@ -13,14 +13,14 @@ counted-requires c κs = search needs
 enum-known-r : tie.Need-enum-known-r
 enum-known-r c = search needs
 
-slot-of-requires : tie.Need-slot-of-requires
-slot-of-requires c κs = search needs
+in-use-requires : tie.Need-in-use-requires
+in-use-requires c κs = search needs
 
 enum-known-r-2 : tie.Need-enum-known-r-2
 enum-known-r-2 c = search needs
 
-slot-of-requires-2 : tie.Need-slot-of-requires-2
-slot-of-requires-2 c κs = search needs
+in-use-requires-2 : tie.Need-in-use-requires-2
+in-use-requires-2 c κs = search needs
 
 enum-told : tie.Need-enum-told
 enum-told c = search needs
@@ -30,11 +30,11 @@ empty-requires c κs = search needs
 
 returns : tie.Need-returns
 unfolding saidOfStep recordOf clause
-returns c = λ slots l v. holds _ _ slots _ _ (c .before .before .before .before .counted .ensures) _ _ (ap recordOf (c .before .before .r .given .1)) v (c .slot-of .ensures)
+returns c = λ slots l v. holds _ _ slots _ _ (c .before .before .before .before .counted .ensures) _ _ (ap recordOf (c .before .before .r .given .1)) v (c .in-use .ensures)
 
 returns-2 : tie.Need-returns-2
 unfolding saidOfStep recordOf clause
-returns-2 c = λ slots l v. holds _ _ slots _ _ (c .before .before .before .before .counted .ensures) _ _ (ap recordOf (c .before .before .r2 .given .1)) v (c .slot-of2 .ensures)
+returns-2 c = λ slots l v. holds _ _ slots _ _ (c .before .before .before .before .counted .ensures) _ _ (ap recordOf (c .before .before .r2 .given .1)) v (c .in-use2 .ensures)
 
 returns-3 : tie.Need-returns-3
 unfolding saidOfStep recordOf
@@ -47,9 +47,9 @@ take-record-spec =
     (tie.spec
     counted-requires
     enum-known-r
-    slot-of-requires
+    in-use-requires
     enum-known-r-2
-    slot-of-requires-2
+    in-use-requires-2
     enum-told
     empty-requires
     returns

@@ -41,8 +41,9 @@ use denote.Triple.Table.{entered, cited}
 use denote.Triple.Walked.{says, Stays, stay-dropped, walkOf, goes-dropped, ends-at, walked, walk-meets}
 use denote.Exit.{yes}
 use Rattle.sheet.specs.Editions.{narrow}
+use Rattle.tally.specs.Tally.{nothing as none-yet}
 use Rattle.replay_spec.specs.Slots.{empty, Slot as RowSlot}
-use Rattle.replay_spec.specs.Step.{state, tally}
+use Rattle.replay_spec.specs.Step.{state}
 use Rattle.replay_slots.specs.Said.{slotOf, rowOf}
 use Rattle.replay_slots.specs.declared.Slot.{Slot}
 use Rattle.replay_slots.proofs.Slot as T
@@ -87,7 +88,7 @@ stayed = (stay-dropped (shrSliceOf (0 ∷ []) tt (plain (λ _. u8))) yes, (stay-
 
 -- what stands, by the number of records, of slots, and the slot's
 abbrev Seen : List ℕ → List ℕ → List RowSlot → ℕ → SlotNo → Looked
-Seen sheet rules row records j = lookAt (j .0) (afterRecords narrow rules sheet (state (tally 0 0 0 0) row) (min records (length sheet / 24)))
+Seen sheet rules row records j = lookAt (j .0) (afterRecords narrow rules sheet (state none-yet row) (min records (length sheet / 24)))
 
 answers : (n slots : ℕ) → n ≡ min slots 1023 → (sheet rules : List ℕ) (records : ℕ) (j : SlotNo) (s : Slot) → slotOf s ≡ empty → (r : Look) → lookOf r ≡ Seen sheet rules (rowOf (replicate n s)) records j → lookOf r ≡ Seen sheet rules (replicate (min slots 1023) empty) records j
 answers n slots e sheet rules records j s es r is =

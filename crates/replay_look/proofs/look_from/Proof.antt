@@ -58,16 +58,18 @@ use Rattle.sheet.proofs.RecordNo as R
 use Rattle.sheet.proofs.RecordNo.Laws as R′
 use Rattle.sheet.proofs.SlotNo as N
 use Rattle.sheet.proofs.SlotNo.Laws as N′
+use Rattle.tally.specs.Tally.{nothing as none-yet}
+use Rattle.tally.specs.Said.{tallyOf}
 use Rattle.replay_spec.specs.Slots.{empty, Slot as RowSlot}
-use Rattle.replay_spec.specs.Step.{State, state, tally, taken, Step as Stands, Stepped, stepped, oneStep}
+use Rattle.replay_spec.specs.Step.{State, state, taken, Step as Stands, Stepped, stepped, oneStep}
 use Rattle.replay_slots.specs.declared.Slot.{Slot}
-use Rattle.replay_slots.specs.declared.Tally.{Tally}
+use Rattle.tally.specs.declared.Tally.{Tally}
 use Rattle.replay_slots.specs.declared.StepAnswer.{StepAnswer}
-use Rattle.replay_slots.specs.Said.{saidOfStep, tallyOf, slotOf, rowOf}
+use Rattle.replay_slots.specs.Said.{saidOfStep, slotOf, rowOf}
 use Rattle.replay_slots.proofs.Slot as T
 use Rattle.replay_slots.proofs.Slot.Laws as T′
-use Rattle.replay_slots.proofs.Tally as Y
-use Rattle.replay_slots.proofs.Tally.Laws as Y′
+use Rattle.tally.proofs.Tally as Y
+use Rattle.tally.proofs.Tally.Laws as Y′
 use Rattle.replay_slots.proofs.StepAnswer as S
 use Rattle.replay_slots.proofs.StepAnswer.Laws as S′
 use Rattle.replay_look.specs.declared.Look.{Look}
@@ -90,9 +92,9 @@ use Rattle.replay_look.proofs.untried as untried′
 use Rattle.replay_look.proofs.untried.Symbol as untried-def
 use Rattle.replay_look.proofs.untried.Symbol.{name as #untried}
 use Rattle.replay_look.proofs.untried.Met as untried-thm
-use Rattle.replay_answer.proofs.nothing.Symbol as nothing-def
-use Rattle.replay_answer.proofs.nothing.Symbol.{name as #nothing}
-use Rattle.replay_answer.proofs.nothing.Met as nothing-thm
+use Rattle.tally.proofs.nothing.Symbol as nothing-def
+use Rattle.tally.proofs.nothing.Symbol.{name as #nothing}
+use Rattle.tally.proofs.nothing.Met as nothing-thm
 use Rattle.replay_step.proofs.step.Symbol as step-def
 use Rattle.replay_step.proofs.step.Symbol.{name as #step}
 use Rattle.replay_step.proofs.step.Met as step-thm
@@ -146,7 +148,7 @@ module _ (rules sheet : List ℕ) (s₀ : State) where
 module _ {M : Type 1} (𝓤 : URA M) (H : Heap 𝓤) (A : Atoms 𝓤) (W : Given 𝓤 H A) (at-mem : Memory → SProp 𝓤) (run : Routine → Fun 𝓤) (sheet rules : Lent u8) (slots : Lent T.the-row)
     (records : ℕ) (j : SlotNo) (room₀ : Room u8 (length (sheet .now))) (room₁ : Room u8 (length (rules .now))) (room : Room T.the-row (length (slots .now))) (g-records : records < 2 ^ 64) (gj : Is N.the-row j (nv j ∷ [])) where
   abbrev s₀ : State
-  s₀ = state (tally 0 0 0 0) (rowOf (slots .now))
+  s₀ = state none-yet (rowOf (slots .now))
 
   abbrev entry : walkOf 𝓤 H A f.ended stayed (f.clauses 𝓤 H A at-mem run) .Ghost
   entry = (passed sheet rules slots (records, (j, tt)) (vint w64 records ∷ [], (nv j ∷ [], tt)), tt)
@@ -318,7 +320,7 @@ look-from-spec 𝓤 H 𝓜 𝓖 𝓡 =
     (record {
       upto = cited 𝓤 H (Upto-of 𝓤 H (𝓖 .A) (𝓜 .mem) (𝓡 .run)) 𝓜 𝓡 code.env #upto upto-def.routine code.calls-replay-look·upto (upto-thm.met 𝓤 H 𝓜 𝓖 𝓡);
       untried = cited 𝓤 H (Untried 𝓤 H (𝓖 .A) (𝓜 .mem) (𝓡 .run)) 𝓜 𝓡 code.env #untried untried-def.routine code.calls-replay-look·untried (untried-thm.met 𝓤 H 𝓜 𝓖 𝓡);
-      nothing = cited 𝓤 H (Nothing 𝓤 H (𝓖 .A) (𝓜 .mem) (𝓡 .run)) 𝓜 𝓡 code.env #nothing nothing-def.routine code.calls-replay-answer·nothing (nothing-thm.met 𝓤 H 𝓜 𝓖 𝓡);
+      nothing = cited 𝓤 H (Nothing 𝓤 H (𝓖 .A) (𝓜 .mem) (𝓡 .run)) 𝓜 𝓡 code.env #nothing nothing-def.routine code.calls-tally·nothing (nothing-thm.met 𝓤 H 𝓜 𝓖 𝓡);
       step = cited 𝓤 H (Step 𝓤 H (𝓖 .A) (𝓜 .mem) (𝓡 .run)) 𝓜 𝓡 code.env #step step-def.routine code.calls-replay-step·step (step-thm.met 𝓤 H 𝓜 𝓖 𝓡);
       slot-at = cited 𝓤 H (Slot-at 𝓤 H (𝓖 .A) (𝓜 .mem) (𝓡 .run)) 𝓜 𝓡 code.env #slot-at slot-at-def.routine code.calls-replay-row·slot-at (slot-at-thm.met 𝓤 H 𝓜 𝓖 𝓡);
     }))

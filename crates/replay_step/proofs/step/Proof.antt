@@ -53,20 +53,21 @@ use Rattle.sheet.specs.declared.RecordNo.{RecordNo}
 use Rattle.sheet.specs.Editions.{narrow}
 use Rattle.sheet.proofs.RecordNo as R
 use Rattle.sheet.proofs.RecordNo.Laws as R′
+use Rattle.tally.specs.Said.{tallyOf}
 use Rattle.replay_spec.specs.Slots.{Slot as RowSlot, free, holding}
 use Rattle.replay_spec.specs.Step.{Names as Named, state, stepped, oneStep}
 use Rattle.replay_slots.specs.declared.Slot.{Slot}
-use Rattle.replay_slots.specs.declared.Tally.{Tally}
+use Rattle.tally.specs.declared.Tally.{Tally}
 use Rattle.replay_slots.specs.declared.Found.{Found}
 use Rattle.replay_slots.specs.declared.Decided.{Decided}
 use Rattle.replay_slots.specs.declared.Sought.the-variants.{Free, Node}
 use Rattle.replay_slots.specs.declared.Names.{Names}
 use Rattle.replay_slots.specs.Search.{search, namesRead}
-use Rattle.replay_slots.specs.Said.{saidOfStep, tallyOf, slotOf, rowOf, namesOf, soughtIn, foundOf}
+use Rattle.replay_slots.specs.Said.{saidOfStep, slotOf, rowOf, namesOf, soughtIn, foundOf}
 use Rattle.replay_slots.proofs.Rows.{row-length, row-set}
 use Rattle.replay_slots.proofs.Slot as T
-use Rattle.replay_slots.proofs.Tally as Y
-use Rattle.replay_slots.proofs.Tally.Laws as Y′
+use Rattle.tally.proofs.Tally as Y
+use Rattle.tally.proofs.Tally.Laws as Y′
 use Rattle.replay_slots.proofs.Sought as K
 use Rattle.replay_slots.proofs.Sought.Laws as K′
 use Rattle.replay_slots.proofs.Found as F

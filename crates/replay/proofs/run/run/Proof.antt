@@ -57,19 +57,21 @@ use Rattle.sheet.proofs.NodeNo as N
 use Rattle.sheet.proofs.NodeNo.Laws as N′
 use Rattle.sheet.proofs.RecordNo as R
 use Rattle.sheet.proofs.RecordNo.Laws as R′
+use Rattle.tally.specs.Tally.{nothing as none-yet}
+use Rattle.tally.specs.Said.{tallyOf}
 use Rattle.replay_spec.specs.Slots.{holding}
-use Rattle.replay_spec.specs.Step.{State, state, tally}
+use Rattle.replay_spec.specs.Step.{State, state}
 use Rattle.replay_spec.specs.Replay.{run as runs-to}
 use Rattle.replay_slots.specs.declared.Slot.{Slot}
-use Rattle.replay_slots.specs.declared.Tally.{Tally}
+use Rattle.tally.specs.declared.Tally.{Tally}
 use Rattle.replay_slots.specs.declared.StepAnswer.{StepAnswer}
 use Rattle.replay_slots.specs.declared.Sought.the-variants.{Node}
 use Rattle.replay_slots.specs.Search.{search}
-use Rattle.replay_slots.specs.Said.{saidOfStep, tallyOf, rowOf, soughtIn}
+use Rattle.replay_slots.specs.Said.{saidOfStep, rowOf, soughtIn}
 use Rattle.replay_slots.proofs.Rows.{row-length}
 use Rattle.replay_slots.proofs.Slot as T
-use Rattle.replay_slots.proofs.Tally as Y
-use Rattle.replay_slots.proofs.Tally.Laws as Y′
+use Rattle.tally.proofs.Tally as Y
+use Rattle.tally.proofs.Tally.Laws as Y′
 use Rattle.replay_slots.proofs.Sought as K
 use Rattle.replay_slots.proofs.Sought.Laws as K′
 use Rattle.replay_slots.proofs.Found as F
@@ -86,9 +88,9 @@ use Rattle.replay.proofs.Answers.{Nothing, Is-taken, Stopped, Last-of, 
 use Rattle.replay_step.proofs.Stepping.{number, number-is, call-step-at, Comes, Step}
 use Rattle.sheet.proofs.RecordBytes.{lent}
 use Rattle.replay_step.proofs.Going.{number-fits, Goes, goes-none, goes-all, goes-on, goes-no-more, record-inside, count-fits, at-fits, end-fits, part-fits, at-end}
-use Rattle.replay_answer.proofs.nothing.Symbol as nothing-def
-use Rattle.replay_answer.proofs.nothing.Symbol.{name as #nothing}
-use Rattle.replay_answer.proofs.nothing.Met as nothing-thm
+use Rattle.tally.proofs.nothing.Symbol as nothing-def
+use Rattle.tally.proofs.nothing.Symbol.{name as #nothing}
+use Rattle.tally.proofs.nothing.Met as nothing-thm
 use Rattle.replay_answer.proofs.is_taken.Symbol as taken-def
 use Rattle.replay_answer.proofs.is_taken.Symbol.{name as #taken}
 use Rattle.replay_answer.proofs.is_taken.Met as taken-thm
@@ -134,7 +136,7 @@ module _ {M : Type 1} (𝓤 : URA M) (H : Heap 𝓤) (A : Atoms 𝓤) (W : Given
   n = length (sheet .now) / 24
 
   abbrev s₀ : State
-  s₀ = state (tally 0 0 0 0) (rowOf (slots .now))
+  s₀ = state none-yet (rowOf (slots .now))
 
   abbrev entry : walkOf 𝓤 H A f.ended stayed (f.clauses 𝓤 H A at-mem run) .Ghost
   entry = (passed sheet rules slots tt tt, tt)
@@ -320,7 +322,7 @@ run-spec 𝓤 H 𝓜 𝓖 𝓡 =
     (tables 𝓤 H 𝓜 𝓡 code.env .C) (tables 𝓤 H 𝓜 𝓡 code.env .Λ) #key code.function (code.unfolded 𝓤 H 𝓜 𝓡)
     (meets 𝓤 H (𝓖 .A) (givenOf 𝓤 H 𝓜 𝓖) (𝓜 .mem) (𝓡 .run) (tablesOf 𝓤 H 𝓜 (tables 𝓤 H 𝓜 𝓡 code.env))
     (record {
-      nothing = cited 𝓤 H (Nothing 𝓤 H (𝓖 .A) (𝓜 .mem) (𝓡 .run)) 𝓜 𝓡 code.env #nothing nothing-def.routine code.calls-replay-answer·nothing (nothing-thm.met 𝓤 H 𝓜 𝓖 𝓡);
+      nothing = cited 𝓤 H (Nothing 𝓤 H (𝓖 .A) (𝓜 .mem) (𝓡 .run)) 𝓜 𝓡 code.env #nothing nothing-def.routine code.calls-tally·nothing (nothing-thm.met 𝓤 H 𝓜 𝓖 𝓡);
       step = cited 𝓤 H (Step 𝓤 H (𝓖 .A) (𝓜 .mem) (𝓡 .run)) 𝓜 𝓡 code.env #step step-def.routine code.calls-replay-step·step (step-thm.met 𝓤 H 𝓜 𝓖 𝓡);
       taken = cited 𝓤 H (Is-taken 𝓤 H (𝓖 .A) (𝓜 .mem) (𝓡 .run)) 𝓜 𝓡 code.env #taken taken-def.routine code.calls-replay-answer·is-taken (taken-thm.met 𝓤 H 𝓜 𝓖 𝓡);
       stopped = cited 𝓤 H (Stopped 𝓤 H (𝓖 .A) (𝓜 .mem) (𝓡 .run)) 𝓜 𝓡 code.env #stopped stopped-def.routine code.calls-replay-answer·stopped (stopped-thm.met 𝓤 H 𝓜 𝓖 𝓡);

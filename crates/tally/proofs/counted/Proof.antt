@@ -2,11 +2,11 @@ use mathlib.Core.Path.{sym, ap, _∙_}
 use Rattle.sheet.specs.declared.Record.{Record}
 use Rattle.sheet.specs.Denote.{recordOf}
 use Rattle.sheet.specs.Counts.{stepOf}
-use Rattle.replay_spec.specs.Step.{counted}
-use Rattle.replay_slots.specs.Said.{tallyOf}
+use Rattle.tally.specs.Tally.{counted}
+use Rattle.tally.specs.Said.{tallyOf}
 use borrow.Author.Needs.{needs}
-use Rattle.replay_verdict.proofs.counted.Statement.{statement}
-use Rattle.replay_verdict.proofs.counted.Tie as tie
+use Rattle.tally.proofs.counted.Statement.{statement}
+use Rattle.tally.proofs.counted.Tie as tie
 
 enum-told : tie.Need-enum-told
 enum-told c = search needs
