@@ -91,13 +91,6 @@ bytes-value (b ∷ bs) h =
 
 -- ---- parts
 
-pub part-suc : (k : ℕ) (s : List ℕ) (o : ℕ) → o + k < length s → part (k + 1) s o ≡ part k s o ++ (getD s (o + k) 0 ∷ [])
-unfolding part
-part-suc k s o h =
-    ap (λ (n : ℕ). take n (drop o s)) (add-one k)
-    ∙ take-suc (drop o s) k 0 (simp length-drop (omega arith))
-    ∙ ap (λ (b : ℕ). take k (drop o s) ++ (b ∷ [])) (getD-drop o s k 0)
-
 pub length-part : (k : ℕ) (s : List ℕ) (o : ℕ) → o + k ≤ length s → length (part k s o) ≡ k
 unfolding part
 length-part k s o h = length-take-le k (drop o s) (simp length-drop (omega arith))
@@ -171,12 +164,6 @@ halves m n d at w l e h p q =
     ∙ ap (λ (k : List ℕ). put k (at + m) (bytes n (w / 256 ^ m))) (p ∙ ap (put d at) (bytes-mod m w))
     ∙ put-put d at (bytes m w) (bytes n (w / 256 ^ m)) (at + m) (ap (λ (k : ℕ). at + k) (sym (length-bytes m w))) h
     ∙ ap (put d at) (sym (bytes-add m n w))
-
-pub copy-suc : (s : List ℕ) (o : ℕ) (d : List ℕ) (at k : ℕ) → o + k < length s → at + k < length d
-    → set (put d at (part k s o)) (at + k) (getD s (o + k) 0) ≡ put d at (part (k + 1) s o)
-copy-suc s o d at k h g =
-    set-more d at (part k s o) (at + k) (getD s (o + k) 0) (ap (λ (n : ℕ). at + n) (sym (length-part k s o (omega arith)))) g
-    ∙ ap (put d at) (sym (part-suc k s o h))
 
 -- two calls, of which the second puts where the first ended
 pub then : (d : List ℕ) (at : ℕ) (xs ys : List ℕ) (n : ℕ) {l m : List ℕ}

@@ -3,7 +3,7 @@ ghost use mathlib.Core.Path.{_≡_};
 ghost use mathlib.Core.List.{[], _∷_};
 ghost use Prim.Native.Nat.{_+_, _≤_, max};
 ghost use lib.ListN.{length};
-ghost use Rattle.base.specs.Bytes.{valueAt, bytes, put, part};
+ghost use Rattle.base.specs.Bytes.{valueAt, bytes, put};
 
 // How many numbers a byte, two bytes and four bytes have room for.
 const OF_ONE: u16 = 256;
@@ -64,20 +64,7 @@ pub fn put_word(d: &mut [u8], at: usize, x: u64)
     put_u32(d, at + 4, (x / OF_FOUR) as u32);
 }
 
-// n bytes of s from `from`, put into d at `at`; the rest of d is untouched.
-pub fn copy(s: &[u8], from: usize, d: &mut [u8], at: usize, n: usize)
-    requires { ⌜ from + n ≤ length (now s) ⌝ }
-    requires { ⌜ at + n ≤ length (now d) ⌝ }
-    ensures { λ _. ⌜ now (d .exit) ≡ put (now (d .entry)) at (part n (now (s .entry)) from) ⌝ }
-{
-    let mut k = 0;
-    while k < n {
-        d[at + k] = s[from + k];
-        k += 1;
-    }
-}
-
-// A number of a table as an index.
+// A count as a length.
 pub fn wide(x: u16) -> usize
     ensures { λ r. ⌜ r ≡ x ⌝ }
 {

@@ -7,7 +7,9 @@ use mathlib.Core.List.{List, [], _∷_, map-append}
 use native.Mathlib.Omega.{arith}
 use native.Mathlib.Decide.{ℕ-discrete}
 use lib.ListN.{length}
+use lib.Seq.{ext-getD}
 use borrow.Author.Tests.{eq-eqb, ne-eqb}
+use Rattle.clause.specs.Clauses.{none}
 use Rattle.sheet.specs.Editions.{Edition}
 use Rattle.sheet.specs.Records.{Node, given, step, clause, nodeAt}
 use Rattle.sheet.specs.Counts.{stepOf, stepsOf}
@@ -31,14 +33,34 @@ number-there : (m n : ℕ) (order : List ℕ) → m ≢ n → numberIn (n ∷ or
 unfolding numberIn
 number-there m n order h = rw (ne-eqb m n h)
 
+placed-other : (m n : ℕ) (order : List ℕ) → m ≢ n → placed m (n ∷ order) ≡ true → placed m order ≡ true
+placed-other m n order q h = elim (placed-cases m n order h) [ inl e ↦ absurd (q e) | inr k ↦ k ]
+
 pub number-below : (m : ℕ) (order : List ℕ) → placed m order ≡ true → numberIn order m < length order
 number-below m [] h = absurd (placed-none m h)
 number-below m (n ∷ order) h = elim (ℕ-discrete m n) [
   | yes q ↦ rw (q, number-here n order) (omega arith)
-  | no q ↦ rw (number-there m n order q) (elim (placed-cases m n order h) [
-    | inl e ↦ absurd (q e)
-    | inr k ↦ let y = number-below m order k in omega arith
-  ])
+  | no q ↦ rw (number-there m n order q) (omega (arith, number-below m order (placed-other m n order q h)))
+]
+
+-- no two that are placed have one number
+pub number-once : (order : List ℕ) (m n : ℕ) → placed m order ≡ true → placed n order ≡ true → numberIn order m ≡ numberIn order n → m ≡ n
+number-once [] m n p q e = absurd (placed-none m p)
+number-once (k ∷ order) m n p q e = elim (ℕ-discrete m k) [
+  | yes a ↦ elim (ℕ-discrete n k) [
+    | yes b ↦ a ∙ sym b
+    | no b ↦
+        let same : length order ≡ numberIn order n = sym (number-here k order) ∙ rw a at e ∙ number-there n k order b in
+        absurd (omega (arith, number-below n order (placed-other n k order b q)))
+  ]
+  | no a ↦ elim (ℕ-discrete n k) [
+    | yes b ↦
+        let same : numberIn order m ≡ length order = sym (number-there m k order a) ∙ rw b at e ∙ number-here k order in
+        absurd (omega (arith, number-below m order (placed-other m k order a p)))
+    | no b ↦
+        number-once order m n (placed-other m k order a p) (placed-other n k order b q)
+        (sym (number-there m k order a) ∙ e ∙ number-there n k order b)
+  ]
 ]
 
 clause-renumber : (number : ℕ → ℕ) (m : Node) → clause (renumber number m) ≡ clause m
@@ -73,10 +95,9 @@ module _ (s : List Node) where
   clause-laid [] m h = absurd (placed-none m h)
   clause-laid (n ∷ order) m h = elim (ℕ-discrete m n) [
     | yes q ↦ rw (q, number-here n order, laid-last n order) (clause-renumber (numberIn order) (nodeAt s n))
-    | no q ↦ elim (placed-cases m n order h) [
-      | inl e ↦ absurd (q e)
-      | inr k ↦ rw (number-there m n order q, laid-before n order (numberIn order m) (number-below m order k)) (clause-laid order m k)
-    ]
+    | no q ↦
+        let k = placed-other m n order q h in
+        rw (number-there m n order q, laid-before n order (numberIn order m) (number-below m order k)) (clause-laid order m k)
   ]
 
   uses-laid : (n : ℕ) (order : List ℕ) (k : ℕ)
@@ -145,6 +166,49 @@ module _ (s : List Node) (Q : ℕ → Type 0) where
         let (m, t, y) = numbered order (o .3) k (omega arith) in
         (m, placed-there m n order t, number-there m n order (not-new n order m (o .1) t) ∙ y)
   ]
+
+  -- ---- each under its number
+
+  more-placed : (n : ℕ) (order : List ℕ) (x : Link) → Parents (λ k. placed k order ≡ true) x → Parents (λ k. placed k (n ∷ order) ≡ true) x
+  more-placed n order (leaf line) h = tt
+  more-placed n order (join p l r) h = (placed-there l n order (h .0), placed-there r n order (h .1))
+
+  -- the premises of one that is placed are placed
+  pub premises-placed : (order : List ℕ) → InOrder (links s) Q order → (m : ℕ) → placed m order ≡ true
+      → Parents (λ k. placed k order ≡ true) (link (nodeAt s m))
+  premises-placed [] o m h = absurd (placed-none m h)
+  premises-placed (n ∷ order) o m h = more-placed n order (link (nodeAt s m)) (elim (placed-cases m n order h) [
+    | inl e ↦ rw e (rw (link-at s n) at (o .2))
+    | inr k ↦ premises-placed order (o .3) m k
+  ])
+
+  renumber-later : (n : ℕ) (order : List ℕ) → placed n order ≡ false → (x : Node) → Parents (λ k. placed k order ≡ true) (link x)
+      → renumber (numberIn (n ∷ order)) x ≡ renumber (numberIn order) x
+  unfolding renumber
+  renumber-later n order f (given line c) h = refl
+  renumber-later n order f (step p l r c) h =
+      rw (number-there l n order (not-new n order l f (h .0)), number-there r n order (not-new n order r f (h .1)))
+
+  laid-at : (order : List ℕ) → InOrder (links s) Q order → (m : ℕ) → placed m order ≡ true
+      → nodeAt (laid s order) (numberIn order m) ≡ renumber (numberIn order) (nodeAt s m)
+  laid-at [] o m h = absurd (placed-none m h)
+  laid-at (n ∷ order) o m h = elim (ℕ-discrete m n) [
+    | yes q ↦
+        rw (q, number-here n order, laid-last s n order)
+        (sym (renumber-later n order (o .1) (nodeAt s n) (rw (link-at s n) at (o .2))))
+    | no q ↦
+        let k = placed-other m n order q h in
+        rw (number-there m n order q, laid-before s n order (numberIn order m) (number-below m order k), laid-at order (o .3) m k)
+        (sym (renumber-later n order (o .1) (nodeAt s m) (premises-placed order (o .3) m k)))
+  ]
+
+  -- as many nodes as an order has, each under its number, are the nodes laid out
+  pub laid-whole : (order : List ℕ) → InOrder (links s) Q order → (t : List Node) → length t ≡ length order
+      → ((m : ℕ) → placed m order ≡ true → nodeAt t (numberIn order m) ≡ renumber (numberIn order) (nodeAt s m)) → t ≡ laid s order
+  unfolding nodeAt
+  laid-whole order o t long f = ext-getD (given 0 none) t (laid s order) (long ∙ sym (length-laid s order)) (λ k h.
+      let (m, p, q) = numbered order o k (omega arith) in
+      rw q at (f m p ∙ sym (laid-at order o m p)))
 
   module _ (from : ℕ) (order : List ℕ) (o : Ordering (links s) Q from order) where
     laid-length : length (laid s order) ≡ suc (length (o .rest))

@@ -1,11 +1,12 @@
--- Laws of lists of nodes: one more node, and parents that stand earlier.
+-- Laws of lists of nodes: what is left of them, one more node, and parents that stand earlier.
 use Prim.Native.Nat.{ℕ, zero, suc, _+_, _≤_, _<_}
 use mathlib.Core.Path.{_≡_}
 use mathlib.Core.List.{List, [], _∷_, _++_}
 use native.Mathlib.Omega.{arith}
 use native.Mathlib.Decide.{ℕ-discrete, decLt}
-use lib.ListN.{length, length-append, List·getD-append, List·getD-eq-default, List·getD-map}
+use lib.ListN.{length, drop, length-append, List·getD-append, List·getD-eq-default, List·getD-map}
 use lib.Seq.{getD-append-seam}
+use Rattle.base.proofs.Lists.{drop-more}
 use Rattle.clause.specs.Clauses.{none}
 use Rattle.sheet.specs.Editions.{Edition}
 use Rattle.sheet.specs.Records.{Node, given, step, nodeAt}
@@ -13,6 +14,16 @@ use Rattle.sheet.specs.Counts.{stepOf, stepsOf}
 use Rattle.press_spec.specs.Links.{Link, leaf, join, link, links, linkAt, Parents}
 use Rattle.press_spec.specs.Trim.{usesIn, uses}
 use Rattle.press_spec.proofs.Proper.{ProperNode, AllProper}
+
+-- ---- what is left from n on
+
+pub nodes-from : (s : List Node) (n : ℕ) → n < length s → drop n s ≡ nodeAt s n ∷ drop (n + 1) s
+unfolding nodeAt
+nodes-from s n h = drop-more s n (given 0 none) h
+
+pub links-from : (t : List Link) (n : ℕ) → n < length t → drop n t ≡ linkAt t n ∷ drop (n + 1) t
+unfolding linkAt
+links-from t n h = drop-more t n (leaf 0) h
 
 -- ---- one more node
 
