@@ -108,6 +108,8 @@ def main():
     with tempfile.TemporaryDirectory() as place:
         scratch = pathlib.Path(place)
         shutil.copytree(ROOT / "crates", scratch / "crates")
+        if (ROOT / "target").exists():  # what is proved already is not proved again
+            shutil.copytree(ROOT / "target", scratch / "target")
         names = [line for line in (ROOT / "crates.txt").read_text().splitlines() if line.strip()]
         names.append("scratch: base clause sheet replay_spec press_spec demands")
         (scratch / "crates.txt").write_text("\n".join(names) + "\n")

@@ -1,9 +1,10 @@
 """The cases of program.py."""
 import errno, os, struct, subprocess, threading, time
 
-from failures import Interrupts, can_fail, failing, file_limit, no_output
-from folders import FOLDER, PARTS, Link
+from failures import Interrupts, can_fail, can_interrupt, failing, file_limit, no_output
+from folders import FOLDER, PARTS, Link, second_program
 
+REFERENCE = second_program()
 OLD = b"old" * 167  # 501 bytes, longer than what is written over it here
 
 
@@ -33,26 +34,19 @@ def table(*lines):
     return b"".join(sets(line) for line in lines)
 
 
-RULES = table("+0", "-0")
-GIVENS = given(0, "+0") + given(1, "-0")
-PAIR = GIVENS + step(0, 0, 1, "")
+def worked():
+    """The worked sheets of the second program: by name the rule table, the sheet, and what the press writes."""
+    lines = subprocess.run([REFERENCE, "sheets"], check=True, capture_output=True, text=True).stdout.splitlines()
+    return {name: tuple(bytes.fromhex(word) for word in words) for name, *words in (line.split() for line in lines)}
+
+
+WORKED = worked()
+RULES, PAIR, PAIR_OUT = WORKED["pair"]
+GIVENS = PAIR[:48]
 PAIR_OK = "ok records 5 nodes 3 steps 1 peak 3 core 2"
-PAIR_OUT = PAIR + drop(0) + drop(1)
-
-
-def chain(records):
-    """Given {+0,-0}, then each step names the node before it on both sides: the placing goes as deep as there are records, every node is
-    kept, and each is dropped at once."""
-    return given(0, "+0 -0") + b"".join(step(0, n, n, "+0 -0") for n in range(records - 1))
-
-
-def chain_out(records):
-    nodes = [chain(records)[24 * n : 24 * n + 24] for n in range(records)]
-    return nodes[0] + b"".join(node + drop(n) for n, node in enumerate(nodes[1:]))
-
-
-def pair_of(v):
-    return {"rules.bin": table(f"+{v}", f"-{v}"), "sheet.bin": given(0, f"+{v}") + given(1, f"-{v}") + step(v, 0, 1, "")}
+# 512 records that are placed 512 deep
+DEEP_RULES, DEEP, DEEP_OUT = WORKED["deep"]
+DEEP_OK = "ok records 1023 nodes 512 steps 511 peak 2 core 1"
 
 
 def files(sheet=PAIR, rules=RULES, **more):
@@ -63,19 +57,14 @@ def files(sheet=PAIR, rules=RULES, **more):
 
 
 def accepted(t):
-    t.answers("pair", files(), PAIR_OK, PAIR_OUT)
-    t.answers("lone", files(given(0, "+0"), table("+0")), "ok records 1 nodes 1 steps 0 peak 1 core 1", given(0, "+0"))
-    irregular = [given(0, "+0 +1"), given(1, "-0 +2"), step(0, 0, 1, "+1 +2"), given(2, "+0 -1"), step(1, 2, 3, "+0 +2")]
-    irregular += [given(3, "-0"), step(0, 4, 5, "+2"), given(4, "-2"), step(2, 6, 7, "")]
-    out = [given(0, "+0 +1"), given(2, "+0 -1"), step(1, 0, 1, "+0"), drop(0), drop(1), given(3, "-0"), step(0, 2, 3, ""), drop(2), drop(3)]
-    rules = table("+0 +1", "-0 +2", "+0 -1", "-0", "-2")
-    t.answers("irregular", files(b"".join(irregular), rules), "ok records 9 nodes 5 steps 2 peak 3 core 3", b"".join(out))
-    both = given(0, "+0 -0") + step(0, 0, 0, "+0 -0")
-    t.answers("twice", files(both, table("+0 -0")), "ok records 3 nodes 2 steps 1 peak 2 core 1", both + drop(0))
-    idle = files(GIVENS + given(0, "+0") + step(0, 0, 1, ""))
-    t.answers("idle", idle, PAIR_OK, PAIR_OUT)
-    last = pair_of(63)
-    t.answers("pair on variable 63", last, PAIR_OK, last["sheet.bin"] + drop(0) + drop(1))
+    lines = {
+        "lone": "ok records 1 nodes 1 steps 0 peak 1 core 1",
+        "irregular": "ok records 9 nodes 5 steps 2 peak 3 core 3",
+        "twice": "ok records 3 nodes 2 steps 1 peak 2 core 1",
+        "deep": DEEP_OK,
+    }
+    for name, (rules, sheet, out) in WORKED.items():
+        t.answers(name, files(sheet, rules), lines.get(name, PAIR_OK), out)
     last_line = files(given(1023, "+5"), bytes(1023 * 16) + sets("+5"))
     t.answers("the last of 1,024 lines", last_line, "ok records 1 nodes 1 steps 0 peak 1 core 1", given(1023, "+5"))
     t.answers("an older, longer pressed.bin keeps no tail", files(pressed=OLD), PAIR_OK, PAIR_OUT)
@@ -117,7 +106,8 @@ def named_like_a_part(t):
 
 
 def in_place(t):
-    """No file can be made beside pressed.bin, or none may take its name, and it can be written: nothing of the old bytes is left."""
+    """No file can be made beside pressed.bin, or filled, or none may take its name, and it can be written: nothing of the old bytes is left. Where
+    it cannot be written whole, the old bytes come back."""
     closed = {"folder_mode": 0o555}
     t.answers("a folder that cannot be written, a pressed.bin that can", files(pressed=OLD), PAIR_OK, PAIR_OUT, **closed)
     t.answers("the same, and it cannot be read", files(pressed=OLD), PAIR_OK, PAIR_OUT, modes=[("pressed.bin", 0o200)], **closed)
@@ -125,9 +115,7 @@ def in_place(t):
     with t.folder({**files(), "other": OLD, "pressed.bin": Link("other")}) as place:
         place.chmod(0o555)
         t.check("in place, through a link", ("the line", t.run(place), PAIR_OK + "\n"), ("other", (place / "other").read_bytes(), PAIR_OUT))
-    with t.folder(files(pressed=OLD)) as place:
-        place.chmod(0o555)
-        t.check("in place, and no room", ("the line", t.run(place, file_limit(48)), "unwritable pressed.bin\n"))
+    t.answers("the same, of 100 MB", files(pressed=100 * 1024 * 1024), PAIR_OK, PAIR_OUT, **closed)
     if can_fail():
         t.answers("rename fails", files(), PAIR_OK, PAIR_OUT, before=failing("rename", errno.EPERM))
         t.answers("rename fails, over a pressed.bin", files(pressed=OLD), PAIR_OK, PAIR_OUT, before=failing("rename", errno.EPERM))
@@ -135,8 +123,8 @@ def in_place(t):
 
 def interrupted(t):
     """A call that a signal interrupts is made again; a close is not, and does no harm."""
-    if not can_fail():
-        print("not run: calls that are interrupted (the system takes no filter of calls)")
+    if not can_interrupt():
+        print("not run: calls that are interrupted (the system takes no filter that asks)")
         return
     read, written = ["rules.bin", "sheet.bin"], ["pressed.bin", PARTS[0]]
     of = {"open": [*read, *written], "read": read, "write": [PARTS[0], "standard output"], "fsync": written, "close": [*read, *written]}
@@ -219,9 +207,7 @@ def refused(t):
 def lengths(t):
     ok = "ok records 1 nodes 1 steps 0 peak 1 core 1"
     t.answers("512 records", files(given(0, "+0") * 512), ok, given(0, "+0"))
-    deep = files(chain(512), table("+0 -0")), "ok records 1023 nodes 512 steps 511 peak 2 core 1", chain_out(512)
-    t.answers("512 records, placed 512 deep", *deep)
-    t.answers("512 records, placed 512 deep, over a longer file", {**deep[0], "pressed.bin": bytes(30000)}, *deep[1:])
+    t.answers("deep, over a longer file", files(DEEP, DEEP_RULES, pressed=bytes(30000)), DEEP_OK, DEEP_OUT)
     t.answers("1,024 lines", files(PAIR, RULES + bytes(1022 * 16)), PAIR_OK, PAIR_OUT)
     most = 100 * 1024 * 1024
     t.answers("100 MB, not a multiple of 24", files(most), "refused 1")
@@ -293,22 +279,28 @@ def unwritable(t, disk):
     case("a pressed.bin that leads to itself", files(pressed=Link("pressed.bin")))
     case("a folder that cannot be written, and no pressed.bin", files(), folder_mode=0o555)
     case("the same, and a pressed.bin that can only be read", files(pressed=OLD), folder_mode=0o555, modes=[("pressed.bin", 0o444)])
-    # The disk is full at some byte of the part: the first, some in the middle, the last.
+    # The disk is full at some byte: the first, some in the middle, the last. The old bytes are put back, so that the file is another in its times.
     for most in [0, 1, 48, 119]:
-        both(f"no room after {most} bytes", before=file_limit(most))
+        case(f"no room after {most} bytes", files(), before=file_limit(most))
+        for old in [b"", b"old", OLD[:119], OLD]:
+            for mode in [0o700, 0o555]:
+                t.answers(f"no room after {most} of {len(old)} bytes", files(pressed=old), line, old, before=file_limit(most), folder_mode=mode)
     t.answers("room for all bytes", files(pressed=OLD), PAIR_OK, PAIR_OUT, before=file_limit(len(PAIR_OUT)))
-    deep = files(chain(512), table("+0 -0"), pressed=OLD)
-    case("no room for the last of 1,023 records", deep, before=file_limit(1023 * 24 - 1))
+    deep = files(DEEP, DEEP_RULES, pressed=OLD)
+    t.answers("no room for the last of 1,023 records", deep, line, OLD, before=file_limit(len(DEEP_OUT) - 1))
     if disk:
         # a page each for rules.bin, sheet.bin and pressed.bin, and none for the part
-        case("a full disk, over a pressed.bin", files(pressed=OLD), at=disk)
+        t.answers("a full disk, over a pressed.bin", files(pressed=OLD), PAIR_OK, PAIR_OUT, at=disk)
+        case("a full disk, and no pressed.bin", {**files(), "other": OLD}, at=disk)
         t.answers("a disk with a page left", files(), PAIR_OK, PAIR_OUT, at=disk)
     else:
         print("not run: a full disk of its own (only root may mount one); a limit on the size of files stands in for it")
     if not can_fail():
         print("not run: calls that fail (the system takes no filter of calls)")
         return
-    both("a write fails", before=failing("write", errno.ENOSPC, len(PAIR_OUT)))
+    fails = failing("write", errno.ENOSPC, len(PAIR_OUT))
+    case("a write fails", files(), before=fails)
+    t.answers("a write fails, over a pressed.bin", files(pressed=OLD), line, OLD, before=fails)
     both("fsync fails", before=failing("fsync", errno.EIO))
 
 

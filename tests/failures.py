@@ -78,7 +78,11 @@ class Interrupts:
                 end.close()
 
     def serve(self):
-        listener = socket.recv_fds(self.ours[0], 1, 1)[1][0]
+        self.ours[0].settimeout(5)
+        with contextlib.suppress(OSError):
+            self.ask(socket.recv_fds(self.ours[0], 1, 1)[1][0])
+
+    def ask(self, listener):
         asked = select.poll()
         asked.register(listener, select.POLLIN)
         while not self.ended:
@@ -89,38 +93,53 @@ class Interrupts:
 
     def answer(self, listener):
         question = bytearray(80)  # struct seccomp_notif: id, pid, flags, then number, machine, address and six arguments of the call
-        fcntl.ioctl(listener, 0xC0502100, question)  # SECCOMP_IOCTL_NOTIF_RECV
-        id_, pid, _, number, _, _, *arguments = struct.unpack("=QIIiIQ6Q", question)
-        name = self.name(pid, number, arguments)
-        if name:
-            self.seen[name] = self.seen.get(name, 0) + 1
-        interrupted = name is not None and self.seen[name] <= 2
-        response = struct.pack("=QqiI", id_, 0, *((-errno.EINTR, 0) if interrupted else (0, 1)))  # SECCOMP_USER_NOTIF_FLAG_CONTINUE
-        with contextlib.suppress(FileNotFoundError):  # the child has ended meanwhile
+        with contextlib.suppress(OSError):  # the child has ended meanwhile
+            fcntl.ioctl(listener, 0xC0502100, question)  # SECCOMP_IOCTL_NOTIF_RECV
+            id_, pid, _, number, _, _, *arguments = struct.unpack("=QIIiIQ6Q", question)
+            name = self.name(pid, number, arguments)
+            if name:
+                self.seen[name] = self.seen.get(name, 0) + 1
+            interrupted = name is not None and self.seen[name] <= 2
+            response = struct.pack("=QqiI", id_, 0, *((-errno.EINTR, 0) if interrupted else (0, 1)))  # SECCOMP_USER_NOTIF_FLAG_CONTINUE
             fcntl.ioctl(listener, 0xC0182101, response)  # SECCOMP_IOCTL_NOTIF_SEND
 
     def name(self, pid, number, arguments):
         """The file of the folder that the call is of, or none."""
         if self.call == "open":
+            is_old = number == 2 and os.uname().machine == "x86_64"  # open, and not openat
             with open(f"/proc/{pid}/mem", "rb", buffering=0) as memory:
-                memory.seek(arguments[0 if number == 2 and os.uname().machine == "x86_64" else 1])
+                memory.seek(arguments[0 if is_old else 1])
                 name = memory.read(64).split(b"\0")[0].decode(errors="replace")
             return name if "/" not in name else None
-        to = os.readlink(f"/proc/{pid}/fd/{arguments[0]}")
+        try:
+            to = os.readlink(f"/proc/{pid}/fd/{arguments[0]}")
+        except OSError:  # a descriptor that is not open
+            return None
         if to.startswith("pipe:") and arguments[0] == 1 and self.call == "write":
             return "standard output"
         return os.path.basename(to) if os.path.dirname(to) == self.place else None
 
 
-def can_fail():
-    """Whether the system takes such filters."""
-    if os.uname().machine not in CALLS:
-        return False
+def is_taken(before):
     try:
-        subprocess.run(["true"], preexec_fn=failing("fsync", errno.EIO), check=True)
+        subprocess.run(["true"], preexec_fn=before, check=True)
         return True
     except (OSError, subprocess.SubprocessError):
         return False
+
+
+def can_fail():
+    """Whether the system takes a filter that fails calls."""
+    return os.uname().machine in CALLS and is_taken(failing("fsync", errno.EIO))
+
+
+def can_interrupt():
+    """Whether it takes one that asks."""
+    if not can_fail():
+        return False
+    calls = Interrupts("fsync")
+    with calls.serving("/"):
+        return is_taken(calls)
 
 
 def file_limit(most):

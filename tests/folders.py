@@ -7,6 +7,13 @@ PARTS = [f"pressed.bin.part{digit}" for digit in range(10)]
 FOLDER = object()  # in the place of a file's bytes
 
 
+def second_program():
+    """Builds the second program, and says where it is."""
+    package = pathlib.Path(__file__).resolve().parent.parent / "reference"
+    subprocess.run(["cargo", "build", "--quiet", "--release", "--offline", "--manifest-path", str(package / "Cargo.toml")], check=True)
+    return package / "target/release/reference"
+
+
 class Link:
     """In the place of a file's bytes: a link that leads there."""
 
@@ -54,7 +61,7 @@ class Tests:
         """What the program prints, with what it should not do beside it: another status, words on standard error."""
         with before.serving(place) if isinstance(before, Interrupts) else contextlib.nullcontext():
             # restore_signals=False: a signal that `before` has ignored stays ignored
-            done = subprocess.run(self.words, cwd=place, capture_output=True, preexec_fn=before, restore_signals=False)
+            done = subprocess.run(self.words, cwd=place, capture_output=True, preexec_fn=before, restore_signals=False, timeout=120)
         line = done.stdout.decode(errors="replace")
         if done.returncode or done.stderr:
             return f"{line} (status {done.returncode}, standard error {done.stderr!r:.200})"

@@ -62,14 +62,12 @@ def main():
     program = ROOT / "target/bin/tempuquile"
     if not program.exists():
         fail("the program is not built: rt check tempuquile")
-    build = ["cargo", "build", "--quiet", "--release", "--offline", "--manifest-path", str(ROOT / "reference/Cargo.toml")]
-    subprocess.run(build, check=True)
     room = pathlib.Path(tempfile.mkdtemp(prefix="tempuquile-"))
     disk = None
     try:
         room.chmod(0o755)
         shutil.copy(program, room / "tempuquile")
-        shutil.copy(ROOT / "reference/target/release/reference", room / "reference")
+        shutil.copy(cases.REFERENCE, room / "reference")
         (room / "work").mkdir()
         disk = small_disk(room)
         root = os.getuid() == 0

@@ -6,6 +6,7 @@ use reference::clause::{Clause, Literal};
 use reference::lengths::{room_needed, LINE, PRESS_RECORDS, RECORD};
 use reference::press::{press, Pressed};
 use reference::rng::Rng;
+use reference::sheets::starred;
 
 /// A sheet, its rule table, and what the second program makes of it.
 pub struct Sheet {
@@ -17,11 +18,10 @@ pub struct Sheet {
 }
 
 impl Sheet {
-    fn new(name: &'static str, draft: &Draft) -> Sheet {
-        let (sheet, rules) = (draft.sheet(), draft.rule_table());
+    fn new(name: &'static str, (sheet, rules): (Vec<u8>, Vec<u8>)) -> Sheet {
         let mut out = vec![0; room_needed(sheet.len() / RECORD)];
         let mut marks = vec![0; rules.len() / LINE];
-        let pressed = press(&sheet, &rules, &mut out, &mut marks).expect("drafts are good");
+        let pressed = press(&sheet, &rules, &mut out, &mut marks).expect("the sheets are good");
         out.truncate(pressed.records * RECORD);
         Sheet {
             name,
@@ -32,6 +32,10 @@ impl Sheet {
         }
     }
 
+    fn of(name: &'static str, draft: &Draft) -> Sheet {
+        Sheet::new(name, (draft.sheet(), draft.rule_table()))
+    }
+
     pub fn records(&self) -> usize {
         self.sheet.len() / RECORD
     }
@@ -40,17 +44,12 @@ impl Sheet {
 /// All of them, by name.
 pub fn all() -> [Sheet; 5] {
     [
-        Sheet::new("pair", &pair()),
-        Sheet::new("shallow", &tree(8)),
-        Sheet::new("deep", &tower()),
-        Sheet::new("chain", &chain()),
-        Sheet::new("shared", &lattice(&mut Rng::new(1, 1), PRESS_RECORDS)),
+        Sheet::new("pair", starred::pair().bytes()),
+        Sheet::of("shallow", &tree(8)),
+        Sheet::new("deep", starred::deep().bytes()),
+        Sheet::of("chain", &chain()),
+        Sheet::of("shared", &lattice(&mut Rng::new(1, 1), PRESS_RECORDS)),
     ]
-}
-
-/// The scope document's *pair*.
-pub fn pair() -> Draft {
-    tree(1)
 }
 
 /// A tree of this many levels: the leaves are all clauses over as many
@@ -72,18 +71,6 @@ fn tree(levels: u8) -> Draft {
         row = pairs
             .map(|two| draft.resolve(pivot, two[0], two[1]))
             .collect();
-    }
-    draft
-}
-
-/// A clause resolved with itself again and again: as deep as a sheet can be,
-/// and nothing is cut.
-fn tower() -> Draft {
-    let mut draft = Draft::default();
-    let both_ways = [Literal::Plus(0), Literal::Minus(0)];
-    let mut last = draft.give(&mut Rng::new(0, 0), both_ways.into_iter().collect());
-    while draft.nodes.len() < PRESS_RECORDS {
-        last = draft.resolve(0, last, last);
     }
     draft
 }

@@ -21,5 +21,6 @@ pub mod sheets;
 pub mod shelf;
 pub mod stats;
 pub mod stream;
+pub mod tables;
 pub mod text;
-pub mod tries;
+pub mod worked;

@@ -1,9 +1,10 @@
-//! `reference cases`, `press`, `shelf`, `stats`, `stream` and `tries`.
+//! `reference cases`, `press`, `random`, `sheets`, `shelf`, `stats`, `tables` and
+//! `worked`.
 
 use reference::cases::{draw, Size};
 use reference::shelf::Shelf;
 use reference::stream::{self, Entry};
-use reference::{program, stats, text, tries};
+use reference::{program, sheets, stats, tables, text, worked};
 use std::io::{self, Write};
 use std::path::Path;
 use std::process::ExitCode;
@@ -12,10 +13,12 @@ use std::{fs, iter};
 const USAGE: &str = "usage:
   reference cases --seed S --count N [--small] [--trace]
   reference press DIR
+  reference random --seed S --count N DIR
+  reference sheets
   reference shelf DIR
   reference stats --seed S --count N [--small]
-  reference stream --seed S --count N DIR
-  reference tries DIR";
+  reference tables DIR
+  reference worked DIR";
 
 fn main() -> ExitCode {
     let words: Vec<String> = std::env::args().skip(1).collect();
@@ -24,10 +27,12 @@ fn main() -> ExitCode {
         ["press", dir] => print(&format!("{}\n", program::run(Path::new(dir)))),
         ["shelf", dir] => make_shelf(Path::new(dir)),
         ["cases", flags @ ..] => with_drawing(flags, print_cases),
-        ["stream", flags @ .., dir] => with_drawing(flags, |drawing| {
+        ["random", flags @ .., dir] => with_drawing(flags, |drawing| {
             write_stream(dir, &stream::random(drawing.seed, drawing.count))
         }),
-        ["tries", dir] => write_stream(dir, &tries::entries()),
+        ["worked", dir] => write_stream(dir, &worked::entries()),
+        ["sheets"] => print(&sheets::listing()),
+        ["tables", dir] => write_tables(dir),
         ["stats", flags @ ..] => with_drawing(flags, print_stats),
         _ => Err(USAGE.to_string()),
     };
@@ -107,12 +112,19 @@ fn print_stats(drawing: &Drawing) -> Result<(), String> {
 /// Writes the stream to DIR/stdin, and what is to be printed of it to DIR/stdout.
 fn write_stream(dir: &str, entries: &[Entry]) -> Result<(), String> {
     let made = stream::of(entries);
-    let write = |name: &str, bytes: &[u8]| {
-        let path = Path::new(dir).join(name);
-        fs::write(&path, bytes).map_err(|error| format!("{}: {error}", path.display()))
-    };
-    write("stdin", &made.stdin)?;
-    write("stdout", made.stdout.as_bytes())
+    write(dir, "stdin", &made.stdin)?;
+    write(dir, "stdout", made.stdout.as_bytes())
+}
+
+/// Writes the tables of worked cases that the definitions are to compute.
+fn write_tables(dir: &str) -> Result<(), String> {
+    write(dir, "Starred.antt", tables::starred().as_bytes())?;
+    write(dir, "Telling.antt", tables::telling().as_bytes())
+}
+
+fn write(dir: &str, name: &str, bytes: &[u8]) -> Result<(), String> {
+    let path = Path::new(dir).join(name);
+    fs::write(&path, bytes).map_err(|error| format!("{}: {error}", path.display()))
 }
 
 /// Unlike `print!`, a closed pipe is an error here and not a panic.

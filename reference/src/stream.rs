@@ -52,22 +52,16 @@ pub fn of(entries: &[Entry]) -> Stream {
     stream
 }
 
-/// Cases of `cases::draw`: one in twelve of any size, the others small. Of the
-/// small replays two in three are shown.
+/// Small cases of `cases::draw`. Of the replays two in three are shown.
 pub fn random(seed: u64, count: u64) -> Vec<Entry> {
-    let size = |index: u64| match index % 12 {
-        0 => Size::Any,
-        _ => Size::Small,
-    };
     let entry = |index: u64| Entry {
-        case: draw(seed, index, size(index)),
-        shown: size(index) == Size::Small && index % 3 != 0,
+        case: draw(seed, index, Size::Small),
+        shown: index % 3 != 0,
     };
-    let entries = (0..).map(entry).filter(|entry| fits(&entry.case));
-    entries.take(count as usize).collect()
+    (0..count).map(entry).collect()
 }
 
-pub fn fits(case: &Case) -> bool {
+fn fits(case: &Case) -> bool {
     let (sheet, rules, room, marks) = parts(case);
     sheet.len() <= SHEET && rules.len() <= RULES && room <= ROOM && marks <= MARKS
 }

@@ -22,7 +22,7 @@ fn directory(name: &str, sheet: Option<&[u8]>, rules: Option<&[u8]>) -> PathBuf 
 
 #[test]
 fn pair_is_pressed() {
-    let (sheet, rules) = pair();
+    let (sheet, rules) = pair().bytes();
     let dir = directory("pair", Some(&sheet), Some(&rules));
     assert_eq!(run(&dir), "ok records 5 nodes 3 steps 1 peak 3 core 2");
     let pressed = fs::read(dir.join("pressed.bin")).unwrap();
@@ -31,7 +31,7 @@ fn pair_is_pressed() {
 
 #[test]
 fn a_longer_old_file_is_replaced() {
-    let (sheet, rules) = pair();
+    let (sheet, rules) = pair().bytes();
     let dir = directory("replaced", Some(&sheet), Some(&rules));
     fs::write(dir.join("pressed.bin"), [OLD; 500]).unwrap();
     run(&dir);
@@ -40,11 +40,11 @@ fn a_longer_old_file_is_replaced() {
 
 #[test]
 fn refusals_leave_the_file_alone() {
-    let (_, rules) = pair();
+    let rules = pair().table();
     let late = sheet(&[given(0, "+0"), given(1, "-0"), step(0, 2, 1, "")]);
     let long = vec![0; 513 * 24];
     let longer = vec![0; 100_000 * 24 + 5];
-    let (pair, _) = pair();
+    let pair = pair().sheet();
     let cases: [(&[u8], &[u8], &str); 6] = [
         (&late, &rules, "refused 9 at 2"),
         (&long, &rules, "refused 3"),
@@ -63,7 +63,7 @@ fn refusals_leave_the_file_alone() {
 
 #[test]
 fn files_that_cannot_be_read_or_written() {
-    let (sheet, rules) = pair();
+    let (sheet, rules) = pair().bytes();
     let neither = directory("neither", None, None);
     assert_eq!(run(&neither), "unreadable rules.bin");
     let no_sheet = directory("no_sheet", None, Some(&rules));

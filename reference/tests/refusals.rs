@@ -6,7 +6,7 @@ use common::*;
 
 /// *pair* with some of its bytes changed.
 fn pair_with(changes: &[(usize, usize, u8)]) -> Vec<u8> {
-    let (mut sheet, _) = pair();
+    let mut sheet = pair().sheet();
     for &(record, at, byte) in changes {
         sheet[record * 24 + at] = byte;
     }
@@ -20,7 +20,7 @@ fn refused_by_both(sheet: &[u8], rules: &[u8], expected: (u32, usize)) {
 
 #[test]
 fn lengths_in_number_order() {
-    let (sheet, rules) = pair();
+    let (sheet, rules) = pair().bytes();
     let ragged_rules = &rules[..31];
     refused_by_both(&sheet[..71], ragged_rules, (1, 0));
     refused_by_both(&[], ragged_rules, (2, 0));
@@ -37,20 +37,20 @@ fn lengths_in_number_order() {
 
 #[test]
 fn a_table_of_1024_lines_is_not_refused() {
-    let (sheet, mut rules) = pair();
+    let (sheet, mut rules) = pair().bytes();
     rules.resize(1024 * 16, 0);
     assert_eq!(press_ok(&sheet, &rules).core, [0, 1]);
 }
 
 #[test]
 fn a_table_may_be_empty() {
-    let (sheet, _) = pair();
+    let sheet = pair().sheet();
     refused_by_both(&sheet, &[], (13, 0));
 }
 
 #[test]
 fn kinds() {
-    let (_, rules) = pair();
+    let rules = pair().table();
     for kind in [0, 4, 255] {
         refused_by_both(&pair_with(&[(1, 0, kind)]), &rules, (6, 1));
     }
@@ -61,7 +61,7 @@ fn kinds() {
 
 #[test]
 fn bytes_that_must_be_zero() {
-    let (sheet, rules) = pair();
+    let (sheet, rules) = pair().bytes();
     for (record, at) in [(0, 1), (0, 2), (0, 3), (0, 4), (1, 5), (2, 6), (2, 7)] {
         refused_by_both(&pair_with(&[(record, at, 1)]), &rules, (7, record));
     }
@@ -75,7 +75,7 @@ fn bytes_that_must_be_zero() {
 
 #[test]
 fn pivots_and_results() {
-    let (_, rules) = pair();
+    let rules = pair().table();
     refused_by_both(&pair_with(&[(2, 1, 255)]), &rules, (8, 2));
     refused_by_both(&pair_with(&[(2, 1, 1)]), &rules, (11, 2));
     refused_by_both(&pair_with(&[(2, 2, 1)]), &rules, (11, 2));
@@ -86,7 +86,7 @@ fn pivots_and_results() {
 
 #[test]
 fn rule_lines() {
-    let (_, rules) = pair();
+    let rules = pair().table();
     refused_by_both(&pair_with(&[(0, 6, 2)]), &rules, (13, 0));
     refused_by_both(&pair_with(&[(1, 7, 1)]), &rules, (13, 1));
     refused_by_both(&pair_with(&[(0, 6, 1)]), &rules, (14, 0));
@@ -95,7 +95,7 @@ fn rule_lines() {
 
 #[test]
 fn the_first_bad_record_answers_with_its_smallest_number() {
-    let (_, rules) = pair();
+    let rules = pair().table();
     let two_records = pair_with(&[(1, 8, 1), (2, 0, 0)]);
     refused_by_both(&two_records, &rules, (14, 1));
     let one_record = [(2, 8, 1), (2, 1, 200), (2, 2, 9)];
@@ -107,7 +107,7 @@ fn the_first_bad_record_answers_with_its_smallest_number() {
 
 #[test]
 fn fifteen_is_the_largest_number_of_a_record() {
-    let (_, rules) = pair();
+    let rules = pair().table();
     assert_eq!(
         replay_answer(&pair_with(&[(0, 6, 1)]), &rules, 0),
         Err((14, 0))
@@ -124,7 +124,7 @@ fn fifteen_is_the_largest_number_of_a_record() {
 
 #[test]
 fn drops_that_name_wrongly() {
-    let (_, rules) = pair();
+    let rules = pair().table();
     let replayed = |records: &[_]| replay_answer(&sheet(records), &rules, 2);
     let (plus, minus) = (given(0, "+0"), given(1, "-0"));
     assert_eq!(replayed(&[dropped(0)]), Err((9, 0)));
@@ -150,7 +150,7 @@ fn a_drop_needs_no_slot_and_sixteen_looks_at_the_last_node() {
 
 #[test]
 fn a_refused_record_changes_neither_tally_nor_slots() {
-    let (_, rules) = pair();
+    let rules = pair().table();
     let mut row = [slot(0, "+0"), FREE];
     let mut running = tally(1, 1, 1, 0);
     let refused = [

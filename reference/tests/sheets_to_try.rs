@@ -26,9 +26,10 @@ const PAIR_OUT: [[u8; 8]; 15] = [
 ];
 
 #[test]
-fn lone() {
-    let done = press_ok(&sheet(&[given(0, "+0")]), &rules(&["+0"]));
-    assert_eq!(done.out, sheet(&[given(0, "+0")]));
+fn lone_is_one_record() {
+    let (sheet, rules) = lone().bytes();
+    let done = press_ok(&sheet, &rules);
+    assert_eq!(done.out, sheet);
     assert_eq!(done.core, [0]);
     let expected = Pressed {
         positive: 1,
@@ -44,7 +45,7 @@ fn lone() {
 
 #[test]
 fn pair_gives_the_printed_bytes() {
-    let (sheet, rules) = pair();
+    let (sheet, rules) = pair().bytes();
     let done = press_ok(&sheet, &rules);
     assert_eq!(done.out, PAIR_OUT.concat());
     assert_eq!(done.core, [0, 1]);
@@ -62,7 +63,7 @@ fn pair_gives_the_printed_bytes() {
 
 #[test]
 fn irregular_loses_two_steps() {
-    let (input, rules) = irregular();
+    let (input, rules) = irregular().bytes();
     let done = press_ok(&input, &rules);
     let expected = [
         given(0, "+0 +1"),
@@ -85,20 +86,19 @@ fn irregular_loses_two_steps() {
 
 #[test]
 fn twice_is_dropped_once() {
-    let input = [given(0, "+0 -0"), step(0, 0, 0, "+0 -0")];
-    let done = press_ok(&sheet(&input), &rules(&["+0 -0"]));
-    let [node, twice] = input;
-    assert_eq!(done.out, sheet(&[node, twice, dropped(0)]));
+    let (input, rules) = twice().bytes();
+    let done = press_ok(&input, &rules);
+    assert_eq!(done.out, [input, sheet(&[dropped(0)])].concat());
     assert_eq!((done.pressed.records, done.pressed.peak), (3, 2));
     assert_eq!((done.pressed.positive, done.pressed.negative), (1, 1));
 }
 
 #[test]
 fn idle_comes_out_as_pair() {
-    let table = rules(&["+0", "-0"]);
-    for unused in [given(0, "+0"), given(1, "-0")] {
-        let input = [given(0, "+0"), given(1, "-0"), unused, step(0, 0, 1, "")];
-        let done = press_ok(&sheet(&input), &table);
+    let mut other = idle();
+    other.records[2] = given(1, "-0");
+    for idle in [idle(), other] {
+        let done = press_ok(&idle.sheet(), &idle.table());
         assert_eq!(done.out, PAIR_OUT.concat());
         assert_eq!(done.core, [0, 1]);
     }
@@ -106,21 +106,15 @@ fn idle_comes_out_as_pair() {
 
 #[test]
 fn idle_of_a_line_of_its_own_is_not_in_the_core() {
-    let table = rules(&["+0", "-0", "+5"]);
-    let input = [
-        given(0, "+0"),
-        given(1, "-0"),
-        given(2, "+5"),
-        step(0, 0, 1, ""),
-    ];
-    let done = press_ok(&sheet(&input), &table);
+    let (sheet, rules) = unmarked().bytes();
+    let done = press_ok(&sheet, &rules);
     assert_eq!(done.out, PAIR_OUT.concat());
     assert_eq!(done.core, [0, 1]);
 }
 
 #[test]
 fn pairs_output_replayed_with_three_slots() {
-    let (_, rules) = pair();
+    let rules = pair().table();
     let (answer, trace) = replay_traced(&PAIR_OUT.concat(), &rules, 3);
     let expected = Replayed {
         positive: 0,
@@ -143,7 +137,7 @@ fn pairs_output_replayed_with_three_slots() {
 
 #[test]
 fn pairs_output_replayed_with_too_few_slots() {
-    let (_, rules) = pair();
+    let rules = pair().table();
     let (answer, trace) = replay_traced(&PAIR_OUT.concat(), &rules, 2);
     assert_eq!(answer, Err((15, 2)));
     let (plus, minus) = (slot(0, "+0"), slot(1, "-0"));
@@ -157,7 +151,7 @@ fn pairs_output_replayed_with_too_few_slots() {
 
 #[test]
 fn irregulars_output_reuses_slots() {
-    let (input, rules) = irregular();
+    let (input, rules) = irregular().bytes();
     let done = press_ok(&input, &rules);
     let (answer, trace) = replay_traced(&done.out, &rules, 3);
     assert_eq!(answer.map(|replayed| replayed.peak), Ok(3));
@@ -179,52 +173,45 @@ fn irregulars_output_reuses_slots() {
 }
 
 #[test]
-fn early_drop() {
-    let (_, rules) = pair();
-    let records = [
-        given(0, "+0"),
-        given(1, "-0"),
-        dropped(0),
-        step(0, 0, 1, ""),
-    ];
-    let (answer, trace) = replay_traced(&sheet(&records), &rules, 2);
+fn early_drop_is_10() {
+    let (sheet, rules) = early_drop().bytes();
+    let (answer, trace) = replay_traced(&sheet, &rules, 2);
     assert_eq!(answer, Err((10, 3)));
     assert_eq!(trace[2], (tally(2, 1, 2, 0), vec![FREE, slot(1, "-0")]));
 }
 
 #[test]
-fn gone() {
-    let records = [given(0, "+0"), dropped(0)];
-    let (answer, trace) = replay_traced(&sheet(&records), &rules(&["+0"]), 1);
+fn gone_is_16() {
+    let (sheet, rules) = gone().bytes();
+    let (answer, trace) = replay_traced(&sheet, &rules, 1);
     assert_eq!(answer, Err((16, 2)));
     assert_eq!(trace[1], (tally(1, 0, 1, 0), vec![FREE]));
 }
 
 #[test]
-fn pivot() {
-    let records = [given(0, "+63"), given(1, "-63"), step(63, 0, 1, "")];
-    let table = rules(&["+63", "-63"]);
-    let mut bytes = sheet(&records);
-    assert_eq!(press_ok(&bytes, &table).pressed.records, 5);
-    assert!(replay_answer(&bytes, &table, 3).is_ok());
-    bytes[2 * 24 + 1] = 64;
-    assert_eq!(press_refused(&bytes, &table), (8, 2));
-    assert_eq!(replay_answer(&bytes, &table, 3), Err((8, 2)));
+fn pivots_63_and_64() {
+    let (sheet, table) = pivot().bytes();
+    assert_eq!(press_ok(&sheet, &table).pressed.records, 5);
+    assert!(replay_answer(&sheet, &table, 3).is_ok());
+    let sheet = pivot_64().sheet();
+    assert_eq!(press_refused(&sheet, &table), (8, 2));
+    assert_eq!(replay_answer(&sheet, &table, 3), Err((8, 2)));
 }
 
 #[test]
-fn forward() {
-    let (_, table) = pair();
+fn forward_is_9() {
+    let mut forward = forward();
     for (left, right) in [(2, 1), (0, 2), (2, 2), (0xFFFF, 1)] {
-        let records = [given(0, "+0"), given(1, "-0"), step(0, left, right, "")];
-        assert_eq!(press_refused(&sheet(&records), &table), (9, 2));
-        assert_eq!(replay_answer(&sheet(&records), &table, 3), Err((9, 2)));
+        forward.records[2] = step(0, left, right, "");
+        let (sheet, rules) = forward.bytes();
+        assert_eq!(press_refused(&sheet, &rules), (9, 2));
+        assert_eq!(replay_answer(&sheet, &rules, 3), Err((9, 2)));
     }
 }
 
 #[test]
 fn room_for_three_records() {
-    let (sheet, rules) = pair();
+    let (sheet, rules) = pair().bytes();
     let mut marks = [0; 2];
     let accepted = reference::press::press(&sheet, &rules, &mut [0; 120], &mut marks);
     assert!(accepted.is_ok());

@@ -7,13 +7,16 @@ use reference::clause::Literal;
 use reference::passes::order::order;
 use reference::passes::rebuild::Why;
 use reference::passes::recycle::Edge;
-use reference::press::{read_proof, run_passes};
+use reference::press::{read_proof, run_passes, Passes};
 use reference::proof::{Node, Proof};
-use reference::tries::passes::*;
+
+fn passes_of(worked: &Worked) -> Passes {
+    run_passes(read_proof(&worked.sheet(), &worked.table()).unwrap())
+}
 
 #[test]
 fn the_kept_side_of_a_cut() {
-    let (sheet, rules) = irregular();
+    let (sheet, rules) = irregular().bytes();
     let done = press_ok(&sheet, &rules);
     assert_eq!((done.pressed.positive, done.pressed.negative), (0, 0));
     let passes = run_passes(read_proof(&sheet, &rules).unwrap());
@@ -24,8 +27,8 @@ fn the_kept_side_of_a_cut() {
 
 #[test]
 fn a_left_edge_cut() {
-    let table = rules(&["-0 -1", "+0 -2", "-0 +1", "+0", "+2"]);
-    let done = press_ok(&sheet(&mirrored()), &table);
+    let (input, table) = mirrored().bytes();
+    let done = press_ok(&input, &table);
     let expected = [
         given(3, "+0"),
         given(2, "-0 +1"),
@@ -46,8 +49,7 @@ fn a_left_edge_cut() {
 /// it may be cut on 0: its S is empty although both uses would hand over a 0.
 #[test]
 fn s_is_not_carried_into_a_node_used_twice() {
-    let table = rules(&["+0 +1", "-0 +1", "+0 -1", "-0 -1"]);
-    let input = sheet(&shared());
+    let (input, table) = shared_reset().bytes();
     let passes = run_passes(read_proof(&input, &table).unwrap());
     assert!(passes.visits.values().all(|visit| visit.cut.is_none()));
     assert!(passes.visits[&2].s.is_empty());
@@ -58,7 +60,7 @@ fn s_is_not_carried_into_a_node_used_twice() {
 
 #[test]
 fn no_step_is_rebuilt_without_its_pivot() {
-    let (sheet, rules) = irregular();
+    let (sheet, rules) = irregular().bytes();
     let passes = run_passes(read_proof(&sheet, &rules).unwrap());
     assert_eq!(passes.rebuilt.why[&8], Why::LeftLacksPivot);
     assert_eq!(passes.rebuilt.stand_ins[&8], 6);
@@ -68,12 +70,11 @@ fn no_step_is_rebuilt_without_its_pivot() {
 /// on, so that the next step on the same pivot is cut as well.
 #[test]
 fn a_cut_step_hands_its_s_on() {
-    let table = rules(&["+0 -0"]);
     let left = chain([(0, 1), (2, 3), (4, 5)]);
     let right = chain([(0, 1), (3, 2), (5, 4)]);
     let kept = [(left, Edge::Right, "+0", 0), (right, Edge::Left, "-0", 1)];
-    for (sheet, edge, s, stand_in) in kept {
-        let passes = run_passes(read_proof(&sheet, &table).unwrap());
+    for (chain, edge, s, stand_in) in kept {
+        let passes = passes_of(&chain);
         for number in [2, 4] {
             assert_eq!(passes.visits[&number].cut, Some(edge));
             assert_eq!(passes.visits[&number].s, clause(s));
@@ -87,8 +88,7 @@ fn a_cut_step_hands_its_s_on() {
 /// cut, and still counts as used twice, so node 2 itself isn't cut on 0.
 #[test]
 fn cuts_do_not_lower_uses() {
-    let table = rules(&["+0 -0", "+0 -0 +1"]);
-    let passes = run_passes(read_proof(&sheet(&named_twice()), &table).unwrap());
+    let passes = passes_of(&named_twice());
     assert_eq!(passes.visits[&3].cut, Some(Edge::Right));
     assert!(passes.visits[&2].s.is_empty());
     assert_eq!(passes.visits[&2].cut, None);
@@ -97,20 +97,17 @@ fn cuts_do_not_lower_uses() {
 
 #[test]
 fn a_twice_named_parent_is_dropped_once() {
-    let records = [
-        given(0, "+0 -0"),
-        step(0, 0, 0, "+0 -0"),
-        step(0, 1, 1, "+0 -0"),
-    ];
-    let done = press_ok(&sheet(&records), &rules(&["+0 -0"]));
-    let [first, second, third] = records;
-    let expected = [first, second, dropped(0), third, dropped(1)];
+    let again = twice_again();
+    let done = press_ok(&again.sheet(), &again.table());
+    let mut expected = again.records;
+    expected.insert(2, dropped(0));
+    expected.push(dropped(1));
     assert_eq!(done.out, sheet(&expected));
 }
 
 #[test]
 fn marks_are_of_the_pressed_sheet() {
-    let (sheet, rules) = irregular();
+    let (sheet, rules) = irregular().bytes();
     assert_eq!(press_ok(&sheet, &rules).core, [0, 2, 3]);
 }
 
@@ -129,7 +126,7 @@ fn more_uses_go_first() {
     let table = rules(&["+0 +1", "-1 -0 -2", "+2"]);
     let passes = run_passes(read_proof(&sheet(&records), &table).unwrap());
     assert_eq!(passes.order, [0, 1, 2, 3, 4, 5]);
-    let passes = run_passes(read_proof(&sheet(&more_uses()), &table).unwrap());
+    let passes = passes_of(&more_uses());
     assert_eq!(passes.order, [1, 2, 3, 0, 4, 5]);
     let expected = [
         given(0, "+0 +1"),
@@ -151,14 +148,13 @@ fn more_uses_go_first() {
 /// but node 2 has three uses and so goes before node 1, the left premise of 3.
 #[test]
 fn uses_count_places_and_not_children() {
-    let passes = run_passes(read_proof(&sheet(&places()), &rules(&[SIX])).unwrap());
+    let passes = passes_of(&places());
     assert_eq!(passes.order, [0, 2, 1, 3, 4, 5, 6]);
 }
 
 #[test]
 fn the_second_trim_lowers_uses() {
-    let table = rules(&["+0 +2 -1", "+0 -0 +1 -1 -2"]);
-    let passes = run_passes(read_proof(&sheet(&trimmed_again()), &table).unwrap());
+    let passes = passes_of(&trimmed_again());
     let untrimmed = Proof {
         nodes: passes.rebuilt.nodes.clone(),
         sink: passes.pressed.sink,
@@ -171,8 +167,7 @@ fn the_second_trim_lowers_uses() {
 /// both lack it, the left one is taken.
 #[test]
 fn the_left_stand_in_is_tested_first() {
-    let table = rules(&["-0 -1", "+0 +1 +2", "-0 -2"]);
-    let passes = run_passes(read_proof(&sheet(&both_lack()), &table).unwrap());
+    let passes = passes_of(&both_lack());
     let clause_of = |number| passes.rebuilt.nodes[&passes.rebuilt.stand_ins[number]].clause();
     let both_lack = |step: &usize| match &passes.trimmed.nodes[step] {
         Node::Step {
@@ -190,8 +185,8 @@ fn the_left_stand_in_is_tested_first() {
 
 #[test]
 fn a_rebuilt_step_may_name_one_node_twice() {
-    let table = rules(&["-0", "+0 +1 -1"]);
-    let done = press_ok(&sheet(&joined()), &table);
+    let (input, table) = twice_after().bytes();
+    let done = press_ok(&input, &table);
     let expected = [given(1, "+0 +1 -1"), step(1, 0, 0, "+0 +1 -1"), dropped(0)];
     assert_eq!(done.out, sheet(&expected));
 }

@@ -1,10 +1,12 @@
 //! Calls with memory that shows what was touched.
-#![allow(dead_code)] // each test file uses its own part of this module
+#![allow(dead_code, unused_imports)] // each test file uses its own part of this module
 
 use reference::lengths::{room_needed, LINE, RECORD};
 use reference::press::{press, Pressed};
 use reference::refusal::Refusal;
 use reference::replay::{replay_watched, Replayed, Slot, Tally};
+pub use reference::sheets::starred::*;
+pub use reference::sheets::telling::*;
 pub use reference::sheets::*;
 
 /// What lent memory holds before a call.

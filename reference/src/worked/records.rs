@@ -1,33 +1,24 @@
 //! The table under "When the gate stays shut", its order, and drop records.
 
-use super::{both, pair_with, press, press_in, pressed, replay};
-use crate::lengths::{LINE, RECORD};
+use super::{both, both_of, pair_with, press, press_in, pressed, replay};
+use crate::lengths::RECORD;
 use crate::record::Record;
-use crate::sheets::{dropped, given, pair, rules, sheet, step};
+use crate::sheets::starred::{lone, pair};
+use crate::sheets::telling::bad_drop;
+use crate::sheets::{dropped, given, rules, sheet, step};
 use crate::stream::Entry;
 
 /// "Checks 1 to 5 come first, in number order, and report record 0."
 pub fn lengths() -> Vec<Entry> {
-    let (pair_sheet, pair_rules) = pair();
+    let (pair_sheet, pair_rules) = pair().bytes();
     let ragged_rules = &pair_rules[..31];
-    let long = vec![0; 1024 * RECORD];
-    let ragged_long = vec![0; 1024 * RECORD + 1];
-    let long_rules = [0; 1025 * LINE];
     [
         // 1, with a table that is 4
         both(&pair_sheet[..71], ragged_rules, 3),
         // 2, with a table that is 4
         both(&[], ragged_rules, 3),
         vec![
-            // 1, of a sheet that is over-long as well
-            press_in(&ragged_long, ragged_rules, 0, 0),
-            replay(&ragged_long, ragged_rules, 0),
-            // 3, with a table that is 4
-            press_in(&long, ragged_rules, 0, 0),
-            replay(&long, ragged_rules, 0),
-            // 4: over 1,024 lines; with no room
-            press_in(&pair_sheet, &long_rules, 120, 1084),
-            replay(&pair_sheet, &long_rules, 3),
+            // 4, with no room
             press_in(&pair_sheet, ragged_rules, 0, 0),
             // 5, with a bad record
             press_in(&pair_with(&[(0, 0, 9)]), &pair_rules, 0, 0),
@@ -42,7 +33,7 @@ pub fn lengths() -> Vec<Entry> {
 
 /// "The first bad record answers, with the smallest number that applies."
 pub fn fields() -> Vec<Entry> {
-    let (_, table) = pair();
+    let table = pair().table();
     let spoilt: [&[(usize, usize, u8)]; 25] = [
         // 6: kinds 0, 4 and 255
         &[(1, 0, 0)],
@@ -84,7 +75,7 @@ pub fn fields() -> Vec<Entry> {
 
 /// 15 comes after all the others: bad records in a full row, and a good one.
 pub fn full_row() -> Vec<Entry> {
-    let (_, table) = pair();
+    let table = pair().table();
     vec![
         replay(&pair_with(&[(0, 6, 1)]), &table, 0),
         replay(&pair_with(&[(2, 8, 1)]), &table, 2),
@@ -122,7 +113,7 @@ fn minus() -> Record {
 }
 
 fn replayed(records: &[Record], slots: usize) -> Entry {
-    let (_, table) = pair();
+    let table = pair().table();
     replay(&sheet(records), &table, slots)
 }
 
@@ -156,23 +147,21 @@ pub fn ends() -> Vec<Entry> {
 /// A drop is 6 for the press, malformed too. So is a pressed sheet, unless it
 /// has one record.
 pub fn drops_for_the_press() -> Vec<Entry> {
-    let (pair_sheet, table) = pair();
-    let mut malformed = sheet(&[plus(), dropped(9)]);
-    malformed[RECORD + 23] = 1;
-    let mut tries = vec![
+    let table = pair().table();
+    let mut entries = vec![
         press(&sheet(&[plus(), minus(), dropped(0)]), &table),
-        press(&pressed(&pair_sheet, &table), &table),
-        press(&pressed(&sheet(&[plus()]), &table), &table),
+        press(&pressed(&pair()), &table),
+        press(&pressed(&lone()), &table),
     ];
-    tries.extend(both(&malformed, &table, 2));
-    tries
+    entries.extend(both_of(&bad_drop(), 2));
+    entries
 }
 
 /// Each byte of a drop that must be zero.
 pub fn bytes_of_a_drop() -> Vec<Entry> {
-    let (pair_sheet, table) = pair();
+    let table = pair().table();
     let of = |at: usize| {
-        let mut spoilt = pressed(&pair_sheet, &table);
+        let mut spoilt = pressed(&pair());
         spoilt[3 * RECORD + at] = 0x80;
         replay(&spoilt, &table, 3)
     };

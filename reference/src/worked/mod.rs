@@ -1,24 +1,22 @@
-//! The sheets of document 01, "Sheets to try", and sheets for the sentences
-//! that random ones seldom reach, as cases of a stream. What is to be printed
-//! of them comes from the press and the replay of this program.
+//! The worked sheets (`sheets`) and changed ones, as cases of a stream. What is
+//! to be printed of them comes from the press and the replay of this program.
 
-pub mod passes;
-pub mod records;
-pub mod worked;
+mod listed;
+mod passes;
+mod records;
 
 use crate::cases::Case;
 use crate::lengths::{room_needed, LINE, RECORD};
-use crate::press::{read_proof, run_passes};
-use crate::record::Record;
-use crate::sheets::pair;
+use crate::sheets::starred::pair;
+use crate::sheets::{sheet, Worked};
 use crate::stream::Entry;
 
 pub fn entries() -> Vec<Entry> {
     [
-        worked::presses(),
-        worked::replays(),
-        worked::pivot_and_forward(),
-        worked::limits(),
+        listed::presses(),
+        listed::replays(),
+        listed::pivot_and_forward(),
+        listed::limits(),
         records::lengths(),
         records::fields(),
         records::full_row(),
@@ -30,8 +28,21 @@ pub fn entries() -> Vec<Entry> {
         passes::slips(),
         passes::stand_ins(),
         passes::orders(),
+        passes::cuts(),
     ]
     .concat()
+}
+
+fn press_sheet(worked: &Worked) -> Entry {
+    press(&worked.sheet(), &worked.table())
+}
+
+fn replay_sheet(worked: &Worked, slots: usize) -> Entry {
+    replay(&worked.sheet(), &worked.table(), slots)
+}
+
+fn both_of(worked: &Worked, slots: usize) -> Vec<Entry> {
+    both(&worked.sheet(), &worked.table(), slots)
 }
 
 /// A press with room and marks to spare.
@@ -79,15 +90,13 @@ fn both(sheet: &[u8], rules: &[u8], slots: usize) -> Vec<Entry> {
 }
 
 /// What the press makes of a good sheet.
-fn pressed(sheet: &[u8], rules: &[u8]) -> Vec<u8> {
-    let proof = read_proof(sheet, rules).expect("the sheet is good");
-    let records = run_passes(proof).records;
-    records.iter().flat_map(Record::write).collect()
+fn pressed(worked: &Worked) -> Vec<u8> {
+    sheet(&worked.pressed().expect("the sheet is good"))
 }
 
 /// *pair* with some of its bytes changed: record, place, byte.
 fn pair_with(changes: &[(usize, usize, u8)]) -> Vec<u8> {
-    let (mut sheet, _) = pair();
+    let mut sheet = pair().sheet();
     for &(record, at, byte) in changes {
         sheet[record * RECORD + at] = byte;
     }

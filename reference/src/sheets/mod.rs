@@ -1,0 +1,104 @@
+//! Sheets written by hand, each once: clauses and records in short words, the
+//! sheets of document 01 (`starred`) and sheets for sentences that those do not
+//! tell apart (`telling`). The tests, the streams of cases, the tables of the
+//! definitions (`tables`), the tests of the built program and the harness all
+//! take them from here.
+
+pub mod starred;
+pub mod telling;
+
+use crate::clause::{Clause, Literal};
+use crate::press::{read_proof, run_passes};
+use crate::proof::Node;
+use crate::record::Record;
+use crate::text::hex;
+
+pub fn clause(text: &str) -> Clause {
+    let literal = |word: &str| match word.split_at(1) {
+        ("+", variable) => Literal::Plus(variable.parse().unwrap()),
+        (_, variable) => Literal::Minus(variable.parse().unwrap()),
+    };
+    text.split_whitespace().map(literal).collect()
+}
+
+pub fn given(line: usize, text: &str) -> Record {
+    let clause = clause(text);
+    Record::Node(Node::Given { line, clause })
+}
+
+pub fn step(pivot: u8, left: usize, right: usize, text: &str) -> Record {
+    let clause = clause(text);
+    Record::Node(Node::Step {
+        pivot,
+        left,
+        right,
+        clause,
+    })
+}
+
+pub fn dropped(node: usize) -> Record {
+    Record::Drop { node }
+}
+
+pub fn sheet(records: &[Record]) -> Vec<u8> {
+    records.iter().flat_map(Record::write).collect()
+}
+
+pub fn rules(lines: &[&str]) -> Vec<u8> {
+    lines.iter().flat_map(|line| clause(line).write()).collect()
+}
+
+/// A sheet and its rule table, under the name that the definitions have for it.
+#[derive(Clone)]
+pub struct Worked {
+    pub name: &'static str,
+    pub rules: Vec<&'static str>,
+    pub records: Vec<Record>,
+    /// A byte of the sheet that is written over.
+    pub spoilt: Option<(usize, u8)>,
+}
+
+impl Worked {
+    pub fn new(name: &'static str, rules: &[&'static str], records: &[Record]) -> Worked {
+        Worked {
+            name,
+            rules: rules.to_vec(),
+            records: records.to_vec(),
+            spoilt: None,
+        }
+    }
+
+    pub fn sheet(&self) -> Vec<u8> {
+        let mut bytes = sheet(&self.records);
+        if let Some((at, byte)) = self.spoilt {
+            bytes[at] = byte;
+        }
+        bytes
+    }
+
+    pub fn table(&self) -> Vec<u8> {
+        rules(&self.rules)
+    }
+
+    pub fn bytes(&self) -> (Vec<u8>, Vec<u8>) {
+        (self.sheet(), self.table())
+    }
+
+    /// What the press writes, if the sheet is good.
+    pub fn pressed(&self) -> Option<Vec<Record>> {
+        let proof = read_proof(&self.sheet(), &self.table()).ok()?;
+        Some(run_passes(proof).records)
+    }
+}
+
+/// Sheets of document 01 that the press takes, a line each: name, rule table,
+/// sheet and what is written of it, as hex.
+pub fn listing() -> String {
+    let line = |worked: &Worked| {
+        let out = sheet(&worked.pressed().expect("the press takes it"));
+        let words = [worked.table(), worked.sheet(), out].map(|bytes| hex(&bytes));
+        format!("{} {}\n", worked.name, words.join(" "))
+    };
+    let deep = [starred::deep()];
+    starred::pressable().iter().chain(&deep).map(line).collect()
+}

@@ -1,0 +1,65 @@
+//! "Sheets to try", in the order of document 01.
+
+use super::{
+    both, both_of, long_replay, press, press_in, press_sheet, pressed, replay, replay_sheet,
+};
+use crate::lengths::LINE;
+use crate::sheets::starred::*;
+use crate::sheets::{given, rules, sheet, step};
+use crate::stream::Entry;
+
+pub fn presses() -> Vec<Entry> {
+    pressable().iter().map(press_sheet).collect()
+}
+
+pub fn replays() -> Vec<Entry> {
+    let of = |slots: usize| replay(&pressed(&pair()), &pair().table(), slots);
+    let with_peak = [(irregular(), 3), (twice(), 2)];
+    let others = with_peak.map(|(sheet, peak)| replay(&pressed(&sheet), &sheet.table(), peak));
+    [
+        // pair's output, replayed: with three slots, with two, with none
+        vec![of(3), of(2), of(0)],
+        others.to_vec(),
+        vec![replay_sheet(&early_drop(), 2), replay_sheet(&gone(), 1)],
+    ]
+    .concat()
+}
+
+pub fn pivot_and_forward() -> Vec<Entry> {
+    // pivot: 63 is accepted, 64 is refused
+    let mut entries = both_of(&pivot(), 3);
+    entries.extend(both_of(&pivot_64(), 3));
+    // forward: the left parent, the right one, both, the largest number
+    entries.extend(both_of(&forward(), 3));
+    for (left, right) in [(0, 2), (2, 2), (0xFFFF, 1)] {
+        let forward = [given(0, "+0"), given(1, "-0"), step(0, left, right, "")];
+        entries.extend(both(&sheet(&forward), &pair().table(), 3));
+    }
+    entries
+}
+
+/// Long sheets and tables, only where they are at a limit or just over it.
+pub fn limits() -> Vec<Entry> {
+    let (pair_sheet, pair_rules) = pair().bytes();
+    let table = rules(&["+0"]);
+    let givens = |count: usize| sheet(&vec![given(0, "+0"); count]);
+    let lines = |count: usize| [pair_rules.clone(), vec![0; (count - 2) * LINE]].concat();
+    vec![
+        // 512 records are not refused by 3, 513 are, with a table that is 4
+        press(&givens(512), &table),
+        press_in(&givens(513), &table[1..], 24_612, 8),
+        // 1 comes before 3
+        press_in(&givens(513)[1..], &table[1..], 24_612, 8),
+        // for the replay 1,023 and 1,024
+        long_replay(&givens(1023), &table, 1023),
+        long_replay(&givens(1024), &table[1..], 1024),
+        // for three records, room of 120 bytes is enough, 119 is 5
+        press_in(&pair_sheet, &pair_rules, 120, 2),
+        press_in(&pair_sheet, &pair_rules, 119, 2),
+        // a mark for each rule line is enough, one less is 5
+        press_in(&pair_sheet, &pair_rules, 120, 1),
+        // 1,024 lines are not refused by 4, 1,025 are
+        press(&pair_sheet, &lines(1024)),
+        press_in(&pair_sheet, &lines(1025), 120, 1084),
+    ]
+}
