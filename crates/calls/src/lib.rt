@@ -4,20 +4,22 @@
 // More turns than any run takes: no loop here goes on for ever.
 const TURNS: usize = 0x8000_0000_0000_0000;
 
-// How a file is opened: to be read, to be appended to, as one that is new, or to be written anew.
+// How a file is opened: to be read, to be appended to, to be read and written, as one that is new, or emptied to be written.
 pub enum How {
     Read,
     Append,
+    Update,
     New,
-    Anew,
+    Emptied,
 }
 
 fn open_once(path: &[u8], how: How) -> i32 {
     match how {
         How::Read => os::open_read(path),
         How::Append => os::open_append(path),
+        How::Update => os::open_update(path),
         How::New => os::create(path),
-        How::Anew => os::open_overwrite(path),
+        How::Emptied => os::open_overwrite(path),
     }
 }
 

@@ -119,13 +119,66 @@ fn make_part(name: &mut [u8]) -> i32 {
     -1
 }
 
+// Writes the bytes into a new file, and leaves none where that fails.
+fn write_new(path: &[u8], bytes: &[u8]) -> bool {
+    let fd = calls::open(path, How::New);
+    if fd < 0 {
+        return false;
+    }
+    if fill(fd, bytes) {
+        return true;
+    }
+    os::unlink(path);
+    false
+}
+
+fn put_start(fd: i32, bytes: &[u8]) -> bool {
+    libc::lseek(fd, 0, libc::SEEK_SET);
+    calls::write_all(fd, bytes)
+}
+
+// Makes these bytes all that an open file has. What it had beyond them is cut off last, when they are on the disk.
+fn overwrite(fd: i32, bytes: &[u8]) -> bool {
+    put_start(fd, bytes) && calls::fsync(fd) && libc::ftruncate(fd, bytes.len() as i64) == 0
+}
+
+// Writes the bytes over those of an open file, of which the first are kept in `old`. Where that fails they are put back.
+fn write_over(fd: i32, bytes: &[u8], old: &mut [u8]) -> bool
+    requires { ⌜ length (now old) ≤ 65536 ⌝ }
+{
+    let found = read_to_end(fd, old);
+    let Length::Whole(length) = found else {
+        return false;
+    };
+    if overwrite(fd, bytes) {
+        return true;
+    }
+    if length < old.len() {
+        overwrite(fd, &old[..length]);
+    } else {
+        put_start(fd, old);
+    }
+    false
+}
+
+// A file that cannot be read is emptied first, since its old bytes cannot be kept.
 fn write_in_place(path: &[u8], bytes: &[u8]) -> bool {
-    let fd = calls::open(path, How::Anew);
+    let fd = calls::open(path, How::Update);
+    if 0 <= fd {
+        let mut old = io::large_buffer();
+        let is_written = write_over(fd, bytes, &mut old);
+        libc::close(fd);
+        return is_written;
+    }
+    if os::errno() == libc::ENOENT {
+        return write_new(path, bytes);
+    }
+    let fd = calls::open(path, How::Emptied);
     0 <= fd && fill(fd, bytes)
 }
 
 // Makes these bytes the file's. They are written beside it, under a name that ends with a digit, and then take its name: the old file stays
-// whole until the new one is. Where no file can be made there, or none may take the name, they are written in place.
+// whole until the new one is. Where that fails, as where no file can be made there, they are written in place.
 pub fn replace(path: &[u8], part: &mut [u8], bytes: &[u8]) -> bool {
     if !lets_itself_be_written(path) {
         return false;
@@ -134,10 +187,9 @@ pub fn replace(path: &[u8], part: &mut [u8], bytes: &[u8]) -> bool {
     if fd < 0 {
         return write_in_place(path, bytes);
     }
-    let is_filled = fill(fd, bytes);
-    if is_filled && os::rename(part, path) == 0 {
+    if fill(fd, bytes) && os::rename(part, path) == 0 {
         return true;
     }
     os::unlink(part);
-    is_filled && write_in_place(path, bytes)
+    write_in_place(path, bytes)
 }
