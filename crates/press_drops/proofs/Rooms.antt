@@ -8,31 +8,25 @@ use borrow.Author.Tests.{eq-eqb, ne-eqb}
 use lib.ListN.{length, length-append, drop-of-length-le}
 use lib.ListN.{drop as after}
 use Rattle.base.proofs.Bytes.{length-put}
-use Rattle.sheet.specs.Editions.{narrow}
+use Rattle.sheet.specs.Editions.{narrow, recordBytes}
 use Rattle.sheet.specs.Records.{Node, given, step, Record, node, drop, nodeAt}
 use Rattle.sheet.specs.Fields.{recordBytesOf}
 use Rattle.sheet.specs.Counts.{stepOf}
 use Rattle.sheet.proofs.RecordBytes.{length-recordBytesOf}
 use Rattle.press_spec.specs.Links.{Link, leaf, join, link, links}
 use Rattle.press_spec.specs.Drops.{dropLast, dropsAfter, withDrops}
+use Rattle.press_spec.proofs.Nodes.{nodes-from}
 use Rattle.press_spec.proofs.Playing.{usedIn}
 use Rattle.press_spec.proofs.Drops.{dropLast-used, dropLast-unused}
-use Rattle.press_emit.specs.Emission.{Emission, emitRecord, emitAll, recordsAt, Roomy}
+use Rattle.press_emit.specs.Emission.{Emission, emitRecord, emitAll, Roomy}
+use Rattle.tally.specs.Tally.{counted}
+use Rattle.press_drops.specs.Turns.{recordsAt}
 use Rattle.press_emit.proofs.Emits.{emitAll-append}
-use Rattle.press_emit.proofs.Emitting.{from-cons}
-
--- room for one record, as the code asks for it
-pub record One (e : Emission) : Type 0 where
-  pub counts : (e .records < 1023) × (e .held ≤ e .records) × (e .steps ≤ e .records)
-  pub bytes : 24 * e .records + 24 ≤ length (e .out)
-
-pub roomy-one : (r : Record) (rs : List Record) (e : Emission) → Roomy (r ∷ rs) e → One e
-roomy-one r rs e h = record { counts = (omega (arith, h .few), h .held, h .steps); bytes = omega (arith, h .room) }
 
 put-length : (r : Record) (rs : List Record) (e : Emission) → Roomy (r ∷ rs) e → length (emitRecord r e .out) ≡ length (e .out)
 unfolding emitRecord
-put-length (node x) rs e h = length-put (e .out) (24 * e .records) (recordBytesOf narrow (node x)) (omega (arith, h .room, length-recordBytesOf narrow (node x)))
-put-length (drop n) rs e h = length-put (e .out) (24 * e .records) (recordBytesOf narrow (drop n)) (omega (arith, h .room, length-recordBytesOf narrow (drop n)))
+put-length r rs e h =
+    length-put (e .out) (recordBytes narrow * e .records) (recordBytesOf narrow r) (omega (arith, h .room, length-recordBytesOf narrow r))
 
 stepOf-le : (x : Node) → stepOf x ≤ 1
 unfolding stepOf
@@ -40,23 +34,31 @@ stepOf-le (given line c) = omega arith
 stepOf-le (step p l r c) = omega arith
 
 pub roomy-next : (r : Record) (rs : List Record) (e : Emission) → Roomy (r ∷ rs) e → Roomy rs (emitRecord r e)
-unfolding emitRecord
+unfolding emitRecord counted
 roomy-next (node x) rs e h = record {
   few = omega (arith, h .few);
   room = omega (arith, h .room, put-length (node x) rs e h);
+  next = omega (arith, h .next);
   held = omega (arith, h .held);
   steps = omega (arith, h .steps, stepOf-le x);
 }
 roomy-next (drop n) rs e h = record {
   few = omega (arith, h .few);
   room = omega (arith, h .room, put-length (drop n) rs e h);
+  next = omega (arith, h .next);
   held = omega (arith, h .held);
   steps = omega (arith, h .steps);
 }
 
 -- room for some records is room for the first of them, and for the others after these
 pub roomy-first : (xs ys : List Record) (e : Emission) → Roomy (xs ++ ys) e → Roomy xs e
-roomy-first xs ys e h = record { few = omega (arith, h .few, length-append xs ys); room = omega (arith, h .room, length-append xs ys); held = h .held; steps = h .steps }
+roomy-first xs ys e h = record {
+  few = omega (arith, h .few, length-append xs ys);
+  room = omega (arith, h .room, length-append xs ys);
+  next = h .next;
+  held = h .held;
+  steps = h .steps;
+}
 
 pub roomy-rest : (xs ys : List Record) (e : Emission) → Roomy (xs ++ ys) e → Roomy ys (emitAll xs e)
 unfolding emitAll
@@ -74,15 +76,15 @@ module _ (later : List Link) (n : ℕ) (e : Emission) where
   unfolding emitAll
   last-dropped h = rw (dropLast-unused later n (sym h))
 
-  pub last-room : false ≡ usedIn later n → Roomy (dropLast later n) e → One e
-  last-room h r = roomy-one (drop n) [] e (rw (dropLast-unused later n (sym h)) at r)
+  pub last-room : false ≡ usedIn later n → Roomy (dropLast later n) e → Roomy (drop n ∷ []) e
+  last-room h r = rw (dropLast-unused later n (sym h)) at r
 
 -- ---- a node and its drops
 
 module _ (s : List Node) (k : ℕ) (e : Emission) where
-  pub turn-room : Roomy (recordsAt s k) e → One e
+  pub turn-room : Roomy (recordsAt s k) e → Roomy (node (nodeAt s k) ∷ []) e
   unfolding recordsAt
-  turn-room h = roomy-one (node (nodeAt s k)) (dropsAfter (link (nodeAt s k)) (after (k + 1) (links s))) e h
+  turn-room h = roomy-first (node (nodeAt s k) ∷ []) (dropsAfter (link (nodeAt s k)) (after (k + 1) (links s))) e h
 
   pub turn-leaf : (line : ℕ) → link (nodeAt s k) ≡ leaf line → emitRecord (node (nodeAt s k)) e ≡ emitAll (recordsAt s k) e
   unfolding emitAll recordsAt dropsAfter
@@ -152,7 +154,7 @@ links-after (x ∷ s) (suc k) = links-after s k
 module _ (s : List Node) (k : ℕ) where
   drops-on : k < length s → withDrops (after k s) ≡ recordsAt s k ++ withDrops (after (k + 1) s)
   unfolding withDrops recordsAt
-  drops-on h = ap withDrops (from-cons s k h) ∙ rw (links-after s (k + 1))
+  drops-on h = ap withDrops (nodes-from s k h) ∙ rw (links-after s (k + 1))
 
   module _ (h : k < length s) (e : Emission) where
     pub emit-room : Roomy (withDrops (after k s)) e → Roomy (recordsAt s k) e

@@ -9,7 +9,8 @@ ghost use Rattle.press_spec.specs.Links.{linkAt};
 ghost use Rattle.press_spec.specs.Trim.{usesIn, uses};
 ghost use Rattle.press_spec.specs.Drops.{dropLast, withDrops};
 ghost use Rattle.press_nodes.specs.Tables.{linksIn, nodesIn, Links, Nodes};
-ghost use Rattle.press_emit.specs.Emission.{emissionOf, emitAll, recordsAt, Roomy, emission};
+ghost use Rattle.press_emit.specs.Emission.{emissionOf, unwritten, emitAll, Roomy};
+ghost use Rattle.press_drops.specs.Turns.{recordsAt};
 use press_emit::Emitted;
 use press_nodes::link;
 use press_nodes::link::Link;
@@ -34,13 +35,13 @@ fn names(links: &[u64], m: NodeNo, n: NodeNo) -> bool
 }
 
 // Whether a node from `from` on names n.
-fn named_from(links: &[u64], from: u16, n: NodeNo) -> bool
+fn named_from(links: &[u64], from: usize, n: NodeNo) -> bool
     requires { ⌜ Links (now links) ⌝ }
     ensures { λ b. ⌜ b ≡ not (eqb (uses (after from (linksIn (now (links .entry)))) (n .0)) 0) ⌝ }
 {
     let mut m = from;
-    while base::wide(m) < links.len() {
-        if names(links, NodeNo(m), n) {
+    while m < links.len() {
+        if names(links, NodeNo(m as u16), n) {
             return true;
         }
         m += 1;
@@ -49,7 +50,7 @@ fn named_from(links: &[u64], from: u16, n: NodeNo) -> bool
 }
 
 // The drop of n, unless a node from `from` on names it.
-fn emit_last(links: &[u64], from: u16, n: NodeNo, out: &mut [u8], e: Emitted) -> Emitted
+fn emit_last(links: &[u64], from: usize, n: NodeNo, out: &mut [u8], e: Emitted) -> Emitted
     requires { ⌜ Links (now links) ⌝ }
     requires { ⌜ Roomy (dropLast (after from (linksIn (now links))) (n .0)) (emissionOf (now out) e) ⌝ }
     ensures { λ f. ⌜ emissionOf (now (out .exit)) f ≡ emitAll (dropLast (after from (linksIn (now (links .entry)))) (n .0)) (emissionOf (now (out .entry)) e) ⌝ }
@@ -68,48 +69,46 @@ fn emit_turn(links: &[u64], clauses: &[u64], k: NodeNo, out: &mut [u8], e: Emitt
     ensures { λ f. ⌜ emissionOf (now (out .exit)) f ≡ emitAll (recordsAt (nodesIn (now (links .entry)) (now (clauses .entry))) (k .0)) (emissionOf (now (out .entry)) e) ⌝ }
 {
     let record = node::node_at(links, clauses, k);
-    let first = press_emit::emit_record(out, e, record);
+    let with_node = press_emit::emit_record(out, e, record);
     let found = link::link_at(links, k);
     let Link::Join { left, right, .. } = found else {
-        return first;
+        return with_node;
     };
-    let from = k.0 + 1;
+    let from = k.index() + 1;
     if left.0 == right.0 {
-        return emit_last(links, from, left, out, first);
+        return emit_last(links, from, left, out, with_node);
     }
     let low = lower(left, right);
     let high = higher(left, right);
-    let second = emit_last(links, from, low, out, first);
-    emit_last(links, from, high, out, second)
+    let with_low = emit_last(links, from, low, out, with_node);
+    emit_last(links, from, high, out, with_low)
 }
 
-fn lower(a: NodeNo, b: NodeNo) -> NodeNo
-    ensures { λ r. ⌜ r .0 ≡ min (a .0) (b .0) ⌝ }
+fn lower(left: NodeNo, right: NodeNo) -> NodeNo
+    ensures { λ r. ⌜ r .0 ≡ min (left .0) (right .0) ⌝ }
 {
-    if a.0 < b.0 { a } else { b }
+    if left.0 < right.0 { left } else { right }
 }
 
-fn higher(a: NodeNo, b: NodeNo) -> NodeNo
-    ensures { λ r. ⌜ r .0 ≡ max (a .0) (b .0) ⌝ }
+fn higher(left: NodeNo, right: NodeNo) -> NodeNo
+    ensures { λ r. ⌜ r .0 ≡ max (left .0) (right .0) ⌝ }
 {
-    if a.0 < b.0 { b } else { a }
+    if left.0 < right.0 { right } else { left }
 }
 
 // Every node in order, with the drops after it.
 pub fn emit_records(links: &[u64], clauses: &[u64], out: &mut [u8]) -> Emitted
     requires { ⌜ Nodes (now links) (now clauses) ⌝ }
-    requires { ⌜ Roomy (withDrops (nodesIn (now links) (now clauses))) (emission (now out) 0 0 0 0) ⌝ }
-    ensures { λ f. ⌜ emissionOf (now (out .exit)) f ≡ emitAll (withDrops (nodesIn (now (links .entry)) (now (clauses .entry)))) (emission (now (out .entry)) 0 0 0 0) ⌝ }
+    requires { ⌜ Roomy (withDrops (nodesIn (now links) (now clauses))) (unwritten (now out)) ⌝ }
+    ensures { λ f. ⌜ emissionOf (now (out .exit)) f ≡ emitAll (withDrops (nodesIn (now (links .entry)) (now (clauses .entry)))) (unwritten (now (out .entry))) ⌝ }
 {
     let mut e = Emitted {
         records: 0,
-        held: 0,
-        peak: 0,
-        steps: 0,
+        tally: tally::nothing(),
     };
-    let mut k: u16 = 0;
-    while base::wide(k) < links.len() {
-        e = emit_turn(links, clauses, NodeNo(k), out, e);
+    let mut k = 0;
+    while k < links.len() {
+        e = emit_turn(links, clauses, NodeNo(k as u16), out, e);
         k += 1;
     }
     e

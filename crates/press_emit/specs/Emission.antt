@@ -1,36 +1,33 @@
--- Records written one after another, with the counts that the answer reports.
-use Prim.Native.Nat.{ℕ, _+_, _-_, _*_, _≤_, max}
+-- Records written one after another, and the tally of them.
+use Prim.Native.Nat.{ℕ, _+_, _*_, _≤_}
 use mathlib.Core.List.{List, [], _∷_}
 use lib.ListN.{length}
-use lib.ListN.{drop as after}
 use Rattle.base.specs.Bytes.{put}
-use Rattle.sheet.specs.Editions.{narrow, recordBytes}
-use Rattle.sheet.specs.Records.{Node, Record, node, drop, nodeAt}
+use Rattle.sheet.specs.Editions.{narrow, recordBytes, pressedRecords}
+use Rattle.sheet.specs.Records.{Record}
 use Rattle.sheet.specs.Fields.{recordBytesOf}
-use Rattle.sheet.specs.Counts.{stepOf}
-use Rattle.press_spec.specs.Links.{link, links}
-use Rattle.press_spec.specs.Drops.{dropsAfter}
+use Rattle.tally.specs.Tally.{Tally, nothing, counted}
+use Rattle.tally.specs.Said.{tallyOf}
 use Rattle.press_emit.specs.declared.Emitted.{Emitted}
 
 pub record Emission : Type 0 where
   pub out : List ℕ
   pub records : ℕ
-  pub held : ℕ
-  pub peak : ℕ
-  pub steps : ℕ
+  pub tally : Tally
 
-abbrev pub emission : List ℕ → ℕ → ℕ → ℕ → ℕ → Emission
-emission o r h p s = record { out = o; records = r; held = h; peak = p; steps = s }
+abbrev pub emission : List ℕ → ℕ → Tally → Emission
+emission out records tally = record { out = out; records = records; tally = tally }
 
 abbrev pub emissionOf : List ℕ → Emitted → Emission
-emissionOf out e = emission out (e .records) (e .held) (e .peak) (e .steps)
+emissionOf out e = emission out (e .records) (tallyOf (e .tally))
+
+-- before the first record
+abbrev pub unwritten : List ℕ → Emission
+unwritten out = emission out 0 nothing
 
 unfoldable pub emitRecord : Record → Emission → Emission
-emitRecord (node n) e =
-    emission (put (e .out) (recordBytes narrow * e .records) (recordBytesOf narrow (node n))) (e .records + 1) (e .held + 1) (max (e .peak) (e .held + 1))
-    (e .steps + stepOf n)
-emitRecord (drop n) e =
-    emission (put (e .out) (recordBytes narrow * e .records) (recordBytesOf narrow (drop n))) (e .records + 1) (e .held - 1) (e .peak) (e .steps)
+emitRecord r e =
+    emission (put (e .out) (recordBytes narrow * e .records) (recordBytesOf narrow r)) (e .records + 1) (counted (e .tally) r)
 
 unfoldable pub emitAll : List Record → Emission → Emission
 emitAll [] e = e
@@ -38,11 +35,8 @@ emitAll (r ∷ rs) e = emitAll rs (emitRecord r e)
 
 -- room for some records more, and counts that cannot run over
 pub record Roomy (rs : List Record) (e : Emission) : Type 0 where
-  pub few : e .records + length rs ≤ 1023
+  pub few : e .records + length rs ≤ pressedRecords narrow
   pub room : recordBytes narrow * (e .records + length rs) ≤ length (e .out)
-  pub held : e .held ≤ e .records
-  pub steps : e .steps ≤ e .records
-
--- node k of the nodes s, and the drops after it
-unfoldable pub recordsAt : List Node → ℕ → List Record
-recordsAt s k = node (nodeAt s k) ∷ dropsAfter (link (nodeAt s k)) (after (k + 1) (links s))
+  pub next : e .tally .next ≤ e .records
+  pub held : e .tally .held ≤ e .tally .next
+  pub steps : e .tally .steps ≤ e .tally .next

@@ -12,7 +12,7 @@ use Rattle.sheet.specs.declared.Reason.{Reason}
 use Rattle.sheet.specs.declared.Reason.the-variants.{Kind}
 use Rattle.sheet.specs.declared.Verdict.{Verdict}
 use Rattle.sheet.specs.declared.Verdict.the-variants.{Fine, Refused}
-use Rattle.sheet.specs.Editions.{narrow}
+use Rattle.sheet.specs.Editions.{narrow, recordBytes}
 use Rattle.sheet.specs.Reasons.{andThen}
 use Rattle.sheet.specs.Records.{Node, given, step, node, drop, reads, unread, clause, nodeAt}
 use Rattle.sheet.specs.Fields.{reading, recordAt}
@@ -98,7 +98,7 @@ module _ (rules sheet : List ℕ) where
   abbrev pub Left : ℕ → ℕ → List Node → Type 0
   Left n k s = judgeFrom narrow rules sheet (n - k) (take k s) ≡ judge narrow rules sheet
 
-  pub judge-begins : (n : ℕ) (s : List Node) → length sheet ≡ 24 * n → Left n 0 s
+  pub judge-begins : (n : ℕ) (s : List Node) → length sheet ≡ recordBytes narrow * n → Left n 0 s
   unfolding judge
   judge-begins n s e = ap (λ (m : ℕ). judgeFrom narrow rules sheet m []) (omega arith)
 

@@ -1,9 +1,8 @@
 // Judging: "Checks 1 to 5 come first, in number order, and report record 0. Then records in order: the first bad record answers, with the
 // smallest number that applies."
 ghost use mathlib.Core.Path.{_≡_};
-ghost use Prim.Native.Nat.{_+_, _*_, _/_, _<_, _≤_};
+ghost use Prim.Native.Nat.{ℕ, _*_, _/_, _<_, _≤_};
 ghost use mathlib.Core.List.{List};
-ghost use Prim.Native.Nat.{ℕ};
 ghost use lib.ListN.{length, take};
 ghost use Rattle.clause.specs.Denote.{literalsOf};
 ghost use Rattle.sheet.specs.Editions.{narrow, recordBytes, pressRecords, capacity};
@@ -57,28 +56,27 @@ pub fn judge_lengths(sheet: usize, rules: usize, out: usize, marks: usize) -> Ve
 
 // 9, 11 and 12, of a step after `next` nodes.
 fn check_step(
-    links: &[u64],
     clauses: &[u64],
     next: NodeNo,
-    p: u8,
-    l: NodeNo,
-    r: NodeNo,
-    c: Clause,
+    pivot: u8,
+    left: NodeNo,
+    right: NodeNo,
+    written: Clause,
 ) -> Verdict
-    requires { ⌜ (length (now clauses) ≡ clauseWords (length (now links))) × (next .0 ≤ length (now links)) ⌝ }
-    ensures { λ v. ⌜ ((rules : List ℕ) → v ≡ checkNode narrow rules (take (next .0) (nodesIn (now (links .entry)) (now (clauses .entry)))) (step p (l .0) (r .0) (literalsOf c))) ⌝ }
+    requires { ⌜ clauseWords (next .0) ≤ length (now clauses) ⌝ }
+    ensures { λ v. ⌜ ((rules links : List ℕ) → next .0 ≤ length links → v ≡ checkNode narrow rules (take (next .0) (nodesIn links (now (clauses .entry)))) (step pivot (left .0) (right .0) (literalsOf written))) ⌝ }
 {
-    let left = sheet_checks::check_earlier(next, l);
-    let Verdict::Fine = left else {
-        return left;
+    let left_verdict = sheet_checks::check_earlier(next, left);
+    let Verdict::Fine = left_verdict else {
+        return left_verdict;
     };
-    let right = sheet_checks::check_earlier(next, r);
-    let Verdict::Fine = right else {
-        return right;
+    let right_verdict = sheet_checks::check_earlier(next, right);
+    let Verdict::Fine = right_verdict else {
+        return right_verdict;
     };
-    let a = clause_table::clause_at(clauses, l);
-    let b = clause_table::clause_at(clauses, r);
-    sheet_checks::check_step(p, a, b, c)
+    let left_clause = clause_table::clause_at(clauses, left);
+    let right_clause = clause_table::clause_at(clauses, right);
+    sheet_checks::check_step(pivot, left_clause, right_clause, written)
 }
 
 // Record k: it is judged against the k nodes before it, and stored as node k if it is proper.
@@ -89,7 +87,7 @@ fn judge_turn(
     clauses: &mut [u64],
     k: NodeNo,
 ) -> Verdict
-    requires { ⌜ (length (now clauses) ≡ clauseWords (length (now links))) × (k .0 < length (now links)) × (24 ≤ length (now bytes)) ⌝ }
+    requires { ⌜ (length (now clauses) ≡ clauseWords (length (now links))) × (k .0 < length (now links)) × (recordBytes narrow ≤ length (now bytes)) ⌝ }
     ensures { λ v. ⌜ (v ≡ turnSays (turn narrow (now (rules .entry)) (now (bytes .entry)) (take (k .0) (nodesIn (now (links .entry)) (now (clauses .entry)))))) × (nodesIn (now (links .exit)) (now (clauses .exit)) ≡ turnStores (k .0) (turn narrow (now (rules .entry)) (now (bytes .entry)) (take (k .0) (nodesIn (now (links .entry)) (now (clauses .entry))))) (nodesIn (now (links .entry)) (now (clauses .entry)))) ⌝ }
 {
     let reading = sheet_read::read_record(bytes, false);
@@ -97,48 +95,61 @@ fn judge_turn(
         return Verdict::Refused(sheet_read::why_unread(reading));
     };
     match record {
-        Record::Given { line, clause } => {
-            let verdict = sheet_checks::check_given(rules, line, clause);
+        Record::Given {
+            line,
+            clause: written,
+        } => {
+            let verdict = sheet_checks::check_given(rules, line, written);
             let Verdict::Fine = verdict else {
                 return verdict;
             };
-            node::put_given(links, clauses, k, line, clause);
+            node::put_given(links, clauses, k, line, written);
             verdict
         }
         Record::Step {
             pivot,
             left,
             right,
-            clause,
+            clause: written,
         } => {
-            let verdict = check_step(links, clauses, k, pivot, left, right, clause);
+            let verdict = check_step(clauses, k, pivot, left, right, written);
             let Verdict::Fine = verdict else {
                 return verdict;
             };
-            node::put_step(links, clauses, k, pivot, left, right, clause);
+            node::put_step(links, clauses, k, pivot, left, right, written);
             verdict
         }
         Record::Drop(_) => Verdict::Refused(Reason::Kind),
     }
 }
 
+// "Nodes are given and resolution records, numbered from 0": the press knows no drops, so every record before node n is a node, and node n is
+// record n. No other function makes a record's number of a node's.
+fn record_of(n: NodeNo) -> RecordNo
+    ensures { λ k. ⌜ k .0 ≡ n .0 ⌝ }
+{
+    RecordNo(n.index())
+}
+
 // Every record in order: the nodes stand in the tables where all are proper.
 pub fn judge(sheet: &[u8], rules: &[u8], links: &mut [u64], clauses: &mut [u64]) -> Judgement
     requires { ⌜ (length (now clauses) ≡ clauseWords (length (now links))) × (length (now links) ≤ capacity) ⌝ }
-    requires { ⌜ length (now sheet) ≡ 24 * length (now links) ⌝ }
+    requires { ⌜ length (now sheet) ≡ recordBytes narrow * length (now links) ⌝ }
     ensures { λ r. ⌜ judgedIn r (nodesIn (now (links .exit)) (now (clauses .exit))) ≡ judge narrow (now (rules .entry)) (now (sheet .entry)) ⌝ }
 {
     let count = links.len();
-    let mut k: u16 = 0;
-    while base::wide(k) < count {
-        let at = RECORD_BYTES * base::wide(k);
+    let mut judged = 0;
+    while judged < count {
+        let next = NodeNo(judged as u16);
+        let here = record_of(next);
+        let at = here.start();
         let end = at + RECORD_BYTES;
-        let verdict = judge_turn(&sheet[at..end], rules, links, clauses, NodeNo(k));
+        let verdict = judge_turn(&sheet[at..end], rules, links, clauses, next);
         match verdict {
             Verdict::Fine => {}
-            Verdict::Refused(why) => return Judgement::Bad(why, RecordNo(base::wide(k))),
+            Verdict::Refused(why) => return Judgement::Bad(why, here),
         }
-        k += 1;
+        judged += 1;
     }
     Judgement::Proper
 }

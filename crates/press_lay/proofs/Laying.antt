@@ -1,14 +1,17 @@
--- Laying out an order: the numbers of a node's parents, and one turn.
+-- Laying out an order: what was found, one turn, and every turn.
 use Prim.Native.Nat.{ℕ, zero, suc, _+_, _-_, _≤_, _<_}
 use mathlib.Core.Path.{_≡_, refl, sym, ap, _∙_}
-use mathlib.Core.Bool.{true, false, true≢false}
-use mathlib.Core.List.{List, _∷_}
+use mathlib.Core.Bool.{Bool, true, false, true≢false, cond}
+use mathlib.Core.Logic.{inl, inr}
+use mathlib.Core.List.{List, [], _∷_}
 use native.Mathlib.Omega.{arith}
-use native.Mathlib.Decide.{ℕ-discrete, decLt}
 use native.Mathlib.Numerals.{add-one}
-use lib.ListN.{length, getD, set, take, List·getD-eq-default}
-use lib.Seq.{take-suc-set}
-use borrow.Author.Tests.{ne-eqb}
+use native.Mathlib.Decide.{ℕ-discrete, decLt}
+use lib.ListN.{length, getD, set, length-set, List·getD-eq-default}
+use lib.Seq.{getD-set-same, getD-set-other}
+use borrow.Author.Tests.{eq-eqb, ne-eqb}
+use Rattle.base.specs.Folds.{rise}
+use Rattle.clause.specs.Clauses.{none}
 use Rattle.clause.specs.Denote.{literalsOf}
 use Rattle.clause.specs.declared.Clause.{Clause}
 use Rattle.sheet.specs.declared.Record.{Record}
@@ -17,13 +20,16 @@ use Rattle.sheet.specs.declared.NodeNo.{NodeNo}
 use Rattle.sheet.specs.declared.LineNo.{LineNo}
 use Rattle.sheet.specs.Records.{Node, given, step, node, nodeAt}
 use Rattle.sheet.specs.Denote.{recordOf}
-use Rattle.press_nodes.specs.Tables.{linksIn, nodesIn}
-use Rattle.press_spec.specs.Links.{Link, link, Parents}
-use Rattle.press_spec.specs.Order.{placed, numberIn, renumber, laid, InOrder}
-use Rattle.press_order.specs.Placing.{orderIn}
-use Rattle.press_lay.specs.Laying.{Laying}
-use Rattle.press_nodes.proofs.Tables.{link-in}
-use Rattle.press_spec.proofs.Ordered.{placed-there}
+use Rattle.press_nodes.specs.Tables.{nodesIn}
+use Rattle.press_spec.specs.Links.{link, links, Parents}
+use Rattle.press_spec.specs.Order.{placed, renumber, laid, InOrder}
+use Rattle.press_spec.specs.Order as Order
+use Rattle.press_order.specs.Placing.{Numbered, Orderly}
+use Rattle.press_lay.specs.Laying.{numberIn, layTurn}
+use Rattle.press_nodes.proofs.Tables.{links-nodes}
+use Rattle.press_order.proofs.Placing.{by-place, has-place}
+use Rattle.press_spec.proofs.Ordered.{placed-none, placed-cases}
+use Rattle.press_spec.proofs.Laid.{number-below, number-once, premises-placed, laid-whole}
 
 -- ---- what was found, laid
 
@@ -40,7 +46,7 @@ module _ (x : Record) (numbers : List ℕ) where
   unfolding recordOf
   known-step q f = f _ (ap recordOf q)
 
-  pub lays-given : (m : Node) {line : LineNo} {c : Clause} → recordOf x ≡ node m → x ≡ Given line c → given (line .0) (literalsOf c) ≡ renumber (λ n. getD numbers n 0 - 1) m
+  pub lays-given : (m : Node) {line : LineNo} {c : Clause} → recordOf x ≡ node m → x ≡ Given line c → given (line .0) (literalsOf c) ≡ renumber (numberIn numbers) m
   unfolding recordOf renumber
   lays-given m {line} {c} e q =
       let f : recordOf (Given line c) ≡ node m = rw q at e in
@@ -48,7 +54,7 @@ module _ (x : Record) (numbers : List ℕ) where
       rw g
 
   pub lays-step : (m : Node) {p : ℕ} {l r : NodeNo} {c : Clause} (i j : ℕ) → recordOf x ≡ node m → x ≡ Step p l r c
-      → i ≡ getD numbers (l .0) 0 - 1 → j ≡ getD numbers (r .0) 0 - 1 → step p i j (literalsOf c) ≡ renumber (λ n. getD numbers n 0 - 1) m
+      → i ≡ numberIn numbers (l .0) → j ≡ numberIn numbers (r .0) → step p i j (literalsOf c) ≡ renumber (numberIn numbers) m
   unfolding recordOf renumber
   lays-step m {p} {l} {r} {c} i j e q u v =
       let f : recordOf (Step p l r c) ≡ node m = rw q at e in
@@ -59,74 +65,119 @@ pub lays-nothing : (x : Record) {n : NodeNo} (m : Node) → recordOf x ≡ node 
 unfolding recordOf
 lays-nothing x {n} m e q = let f : recordOf (Drop n) ≡ node m = rw q at e in let z : _≡_ {A = ℕ} 0 1 = cc in omega arith
 
--- ---- a part of an order
-
-number-later : (m n : ℕ) (order : List ℕ) → placed n order ≡ false → placed m order ≡ true → numberIn (n ∷ order) m ≡ numberIn order m
-unfolding numberIn
-number-later m n order f t = rw (ne-eqb m n (λ q. true≢false (sym t ∙ ap (λ (k : ℕ). placed k order) q ∙ f)))
-
-module _ (s : List Link) (Q : ℕ → Type 0) (t : List ℕ) where
-  orderly-at : (c i : ℕ) → i < c → InOrder s Q (orderIn t c) → InOrder s Q (getD t i 0 ∷ orderIn t i)
-  unfolding orderIn
-  orderly-at zero i h o = absurd (omega arith)
-  orderly-at (suc c) i h o = elim (ℕ-discrete i c) [ yes q ↦ rw q o | no q ↦ orderly-at c i (omega arith) (o .3) ]
-
-  -- a node keeps its number
-  number-stays : (m c i : ℕ) → i ≤ c → InOrder s Q (orderIn t c) → placed m (orderIn t i) ≡ true
-      → (placed m (orderIn t c) ≡ true) × (numberIn (orderIn t c) m ≡ numberIn (orderIn t i) m)
-  unfolding orderIn
-  number-stays m zero i h o q = let z : i ≡ 0 = omega arith in (rw z at q, rw z)
-  number-stays m (suc c) i h o q = elim (ℕ-discrete i (suc c)) [
-    | yes e ↦ (rw e at q, rw e)
-    | no e ↦
-        let (a, b) = number-stays m c i (omega arith) (o .3) q in
-        (placed-there m (getD t c 0) (orderIn t c) a, number-later m (getD t c 0) (orderIn t c) (o .1) a ∙ b)
-  ]
-
 -- ---- one turn
 
-module _ {h c numbers order : List ℕ} {count : ℕ} (L : Laying h c numbers order count) {i at : ℕ} (same : at ≡ i) (low : i < count) where
+module _ (numbers : List ℕ) (s old : List Node) {n i : ℕ} (same : i ≡ n) where
+  pub turn-none : getD numbers i 0 ≡ 0 → old ≡ layTurn numbers s n old
+  unfolding layTurn
+  turn-none q = rw (eq-eqb (getD numbers n 0) 0 (rw same at q))
+
+  pub turn-some : {k : ℕ} → (getD numbers i 0 ≡ 0 → ⊥) → k ≡ numberIn numbers n
+      → set old k (renumber (numberIn numbers) (nodeAt s n)) ≡ layTurn numbers s n old
+  unfolding layTurn
+  turn-some q e = rw (ne-eqb (getD numbers n 0) 0 (rw same at q), e)
+
+pub turn-next : (numbers : List ℕ) (s old now new : List Node) (n : ℕ) → now ≡ rise (layTurn numbers s) n old → new ≡ layTurn numbers s n now
+    → new ≡ rise (layTurn numbers s) (n + 1) old
+unfolding rise
+turn-next numbers s old now new n e q = q ∙ ap (layTurn numbers s n) e ∙ rw (add-one n)
+
+module _ (h c numbers order : List ℕ) (orderly : Orderly h order) (numbered : Numbered numbers order) where
   abbrev s : List Node
   s = nodesIn h c
 
-  abbrev n : ℕ
-  n = getD order at 0
-
   abbrev Below : ℕ → Type 0
-  Below m = m < length h
+  Below n = n < length h
 
-  here : InOrder (linksIn h) Below (n ∷ orderIn order i)
-  here = rw same (orderly-at (linksIn h) Below order count i low (L .orderly))
+  orderly-nodes : InOrder (links (nodesIn h c)) Below order
+  orderly-nodes = rw (links-nodes h c) orderly
 
-  pub node-inside : n < length h
-  node-inside = here .0
+  has-number : (m : ℕ) → placed m order ≡ true → getD numbers m 0 ≡ suc (Order.numberIn order m)
+  has-number m q = by-place numbers order m numbered true q
 
-  premises-placed : Parents (λ k. placed k (orderIn order i) ≡ true) (link (nodeAt s n))
-  premises-placed = rw (link-in h c n node-inside) at (here .2)
-
-  has-number : (m : ℕ) → placed m (orderIn order i) ≡ true → getD numbers m 0 ≡ suc (numberIn (orderIn order i) m)
-  has-number m q =
-      let (u, v) = number-stays (linksIn h) Below order m count i (omega arith) (L .orderly) q in
-      rw (u, v) at (L .numbered m)
-
-  known : (m : Node) → Parents (λ k. placed k (orderIn order i) ≡ true) (link m) → Parents (HasPlace numbers) (link m)
+  known : (m : Node) → Parents (λ k. placed k order ≡ true) (link m) → Parents (HasPlace numbers) (link m)
   known (given line d) h = tt
   known (step p l r d) h = (omega (arith, has-number l (h .0)), omega (arith, has-number r (h .1)))
 
-  same-numbers : (m : Node) → Parents (λ k. placed k (orderIn order i) ≡ true) (link m) → renumber (λ n. getD numbers n 0 - 1) m ≡ renumber (numberIn (orderIn order i)) m
+  same-numbers : (m : Node) → Parents (λ k. placed k order ≡ true) (link m) → renumber (numberIn numbers) m ≡ renumber (Order.numberIn order) m
   unfolding renumber
   same-numbers (given line d) h = refl
   same-numbers (step p l r d) h =
-      let u : getD numbers l 0 - 1 ≡ numberIn (orderIn order i) l = omega (arith, has-number l (h .0)) in
-      let v : getD numbers r 0 - 1 ≡ numberIn (orderIn order i) r = omega (arith, has-number r (h .1)) in
+      let u : getD numbers l 0 - 1 ≡ Order.numberIn order l = omega (arith, has-number l (h .0)) in
+      let v : getD numbers r 0 - 1 ≡ Order.numberIn order r = omega (arith, has-number r (h .1)) in
       rw (u, v)
 
-  module _ (x : Record) (found : recordOf x ≡ node (nodeAt s n)) where
-    pub parents-known : (m : Node) → recordOf x ≡ node m → Parents (HasPlace numbers) (link m)
-    parents-known m e = let q : m ≡ nodeAt s n = cc in rw q (known (nodeAt s n) premises-placed)
+  module _ {n i : ℕ} (same : i ≡ n) (some : getD numbers i 0 ≡ 0 → ⊥) where
+    pub number-inside : {k : ℕ} → k ≡ numberIn numbers n → k < length order
+    number-inside e =
+        let q = has-place numbers order n numbered i same some in
+        omega (arith, has-number n q, number-below n order q)
 
-    pub laid-next : (old new : List Node) → i < length old → ((m : Node) → recordOf x ≡ node m → new ≡ set old i (renumber (λ n. getD numbers n 0 - 1) m))
-        → take i old ≡ laid s (orderIn order i) → take (i + 1) new ≡ laid s (orderIn order (i + 1))
-    unfolding laid orderIn
-    laid-next old new o f e =
-        rw (f (nodeAt s n) found, add-one i, take-suc-set old i (renumber (λ n. getD numbers n 0 - 1) (nodeAt s n)) o, e, same-numbers (nodeAt s n) premises-placed, same)
+    pub parents-known : (x : Record) → recordOf x ≡ node (nodeAt s n) → (m : Node) → recordOf x ≡ node m → Parents (HasPlace numbers) (link m)
+    parents-known x found m e =
+        let q : m ≡ nodeAt s n = cc in
+        rw q (known (nodeAt s n) (premises-placed s Below order orderly-nodes n (has-place numbers order n numbered i same some)))
+
+  -- ---- every turn
+
+  turn-placed : (n : ℕ) (t : List Node) → placed n order ≡ true
+      → layTurn numbers s n t ≡ set t (Order.numberIn order n) (renumber (Order.numberIn order) (nodeAt s n))
+  unfolding layTurn
+  turn-placed n t q =
+      let f = has-number n q in
+      let k : getD numbers n 0 - 1 ≡ Order.numberIn order n = omega (arith, f) in
+      rw (ne-eqb (getD numbers n 0) 0 (λ z. omega (arith, f)), k)
+      (ap (set t (Order.numberIn order n)) (same-numbers (nodeAt s n) (premises-placed s Below order orderly-nodes n q)))
+
+  turn-other : (n : ℕ) (t : List Node) → placed n order ≡ false → layTurn numbers s n t ≡ t
+  unfolding layTurn
+  turn-other n t q = rw (eq-eqb (getD numbers n 0) 0 (by-place numbers order n numbered false q))
+
+  module _ (t : List Node) (room : length t ≡ length order) where
+    abbrev after : ℕ → List Node
+    after n = rise (layTurn numbers s) n t
+
+    -- the nodes below n that have a place stand there
+    abbrev LaidBelow : ℕ → List Node → Type 0
+    LaidBelow n u = (length u ≡ length order)
+        × ((m : ℕ) → m < n → placed m order ≡ true → nodeAt u (Order.numberIn order m) ≡ renumber (Order.numberIn order) (nodeAt s m))
+
+    laid-turn : (n : ℕ) (u : List Node) → LaidBelow n u → LaidBelow (suc n) (layTurn numbers s n u)
+    unfolding nodeAt
+    laid-turn n u (long, f) = by (placed n order) refl
+      where
+        x : Node
+        x = renumber (Order.numberIn order) (nodeAt s n)
+
+        by : (b : Bool) → placed n order ≡ b → LaidBelow (suc n) (layTurn numbers s n u)
+        by true q = rw (turn-placed n u q) (
+          simp length-set long,
+          λ m i p. elim (ℕ-discrete m n) [
+            | yes e ↦ rw e (getD-set-same u (Order.numberIn order n) x (given 0 none) (omega (arith, number-below n order q)))
+            | no e ↦ getD-set-other u (Order.numberIn order n) (Order.numberIn order m) x (given 0 none) (λ z. e (number-once order m n p q z)) ∙ f m (omega arith) p
+          ],
+        )
+        by false q = rw (turn-other n u q) (
+          long,
+          λ m i p. elim (ℕ-discrete m n) [
+            | yes e ↦ absurd (true≢false (sym p ∙ rw e q))
+            | no e ↦ f m (omega arith) p
+          ],
+        )
+
+    laid-below : (n : ℕ) → LaidBelow n (after n)
+    unfolding rise
+    laid-below zero = (room, λ m i p. absurd (omega arith))
+    laid-below (suc n) = laid-turn n (after n) (laid-below n)
+
+    placed-inside : (m : ℕ) → placed m order ≡ true → m < length h
+    placed-inside m p = in-order-inside order orderly m p
+      where
+        in-order-inside : (o : List ℕ) → Orderly h o → (m : ℕ) → placed m o ≡ true → m < length h
+        in-order-inside [] d m q = absurd (placed-none m q)
+        in-order-inside (n ∷ o) d m q = elim (placed-cases m n o q) [ inl e ↦ rw e (d .0) | inr k ↦ in-order-inside o (d .3) m k ]
+
+    pub all-laid : after (length h) ≡ laid s order
+    all-laid =
+        let y = laid-below (length h) in
+        laid-whole s Below order orderly-nodes (after (length h)) (y .0) (λ m p. y .1 m (placed-inside m p) p)

@@ -1,13 +1,25 @@
--- 5. Order, in tables: what laying out an order may assume.
-use Prim.Native.Nat.{ℕ, _≤_, _<_}
+-- 5. Order, in tables: each node that has a place in the order, at that place.
+use Prim.Native.Nat.{ℕ, _-_}
+use mathlib.Core.Path.{_≡_}
+use mathlib.Core.Bool.{cond}
 use mathlib.Core.List.{List}
-use lib.ListN.{length}
-use Rattle.press_spec.specs.Order.{InOrder}
-use Rattle.press_nodes.specs.Tables.{linksIn, Nodes}
-use Rattle.press_order.specs.Placing.{orderIn, Numbered}
+use lib.Dec.{eqb}
+use lib.ListN.{length, getD, set}
+use Rattle.sheet.specs.Records.{Node, nodeAt}
+use Rattle.press_spec.specs.Order.{renumber}
+use Rattle.press_order.specs.Placing.{Numbered, Orderly}
 
-pub record Laying (links clauses numbers order : List ℕ) (count : ℕ) : Type 0 where
-  pub tables : Nodes links clauses
-  pub room : count ≤ length order
-  pub orderly : InOrder (linksIn links) (λ k. k < length links) (orderIn order count)
-  pub numbered : Numbered numbers (orderIn order count)
+-- the new number of a node that has a place
+abbrev pub numberIn : List ℕ → ℕ → ℕ
+numberIn numbers n = getD numbers n 0 - 1
+
+-- what the turn at node n of the nodes s makes of the nodes laid out so far
+unfoldable pub layTurn : List ℕ → List Node → ℕ → List Node → List Node
+layTurn numbers s n laid = cond (eqb (getD numbers n 0) 0) laid (set laid (numberIn numbers n) (renumber (numberIn numbers) (nodeAt s n)))
+
+-- what laying out may assume: some order stands in the table, with as many nodes as there is room for
+pub record Laying (links numbers : List ℕ) (room : ℕ) : Type 0 where
+  pub order : List ℕ
+  pub orderly : Orderly links order
+  pub numbered : Numbered numbers order
+  pub fills : length order ≡ room

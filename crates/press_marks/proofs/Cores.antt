@@ -12,7 +12,7 @@ use Rattle.press_spec.specs.Links.{Link, leaf, join, linkAt}
 use Rattle.press_spec.specs.Drops.{markLink, markLines, total}
 use Rattle.press_spec.proofs.Marks.{length-marks, each-marks}
 use Rattle.press_marks.specs.Marking.{LinesBelow}
-use Rattle.press_emit.proofs.Emitting.{links-cons}
+use Rattle.press_spec.proofs.Nodes.{links-from}
 
 pub join-unmarked : (t : List Link) (k p l r : ℕ) (marks : List ℕ) → linkAt t k ≡ join p l r → marks ≡ markLink (linkAt t k) marks
 unfolding markLink
@@ -29,7 +29,7 @@ module _ (s : List Link) (k line : ℕ) (q : linkAt s k ≡ leaf line) where
 module _ (s : List Link) (k : ℕ) where
   pub mark-on : (marks : List ℕ) → k < length s → markLines (after (k + 1) s) (markLink (linkAt s k) marks) ≡ markLines (after k s) marks
   unfolding markLines
-  mark-on marks h = sym (ap (λ (l : List Link). markLines l marks) (links-cons s k h))
+  mark-on marks h = sym (ap (λ (l : List Link). markLines l marks) (links-from s k h))
 
   pub mark-done : (marks : List ℕ) → length s ≤ k → marks ≡ markLines (after k s) marks
   unfolding markLines

@@ -23,7 +23,7 @@ fn mark_turn(links: &[u64], k: NodeNo, core: &mut [u8])
     let Link::Leaf(line) = found else {
         return;
     };
-    let i = base::wide(line.0);
+    let i = line.index();
     core[i] = 1;
 }
 
@@ -34,9 +34,9 @@ fn mark_core(links: &[u64], core: &mut [u8])
     ensures { λ _. ⌜ now (core .exit) ≡ markLines (linksIn (now (links .entry))) (replicate (length (now (core .entry))) 0) ⌝ }
 {
     clear::clear_marks(core);
-    let mut k: u16 = 0;
-    while base::wide(k) < links.len() {
-        mark_turn(links, NodeNo(k), core);
+    let mut k = 0;
+    while k < links.len() {
+        mark_turn(links, NodeNo(k as u16), core);
         k += 1;
     }
 }

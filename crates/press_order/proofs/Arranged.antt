@@ -1,20 +1,20 @@
--- What a node reaches, in its order, under new numbers: some nodes, no more than there were, and sound again.
+-- What a node reaches, in its order, under new numbers: no more nodes than there were, and sound again.
 use Prim.Native.Nat.{ℕ, _≤_, _<_}
 use mathlib.Core.Path.{_≡_, sym, ap, _∙_}
 use mathlib.Core.Bool.{true}
 use mathlib.Core.List.{List, [], _∷_}
 use native.Mathlib.Omega.{arith}
 use native.Mathlib.Decide.{ℕ-discrete}
-use lib.ListN.{length, take}
-use lib.Seq.{length-take-le}
+use lib.ListN.{length}
 use Rattle.sheet.specs.Records.{Node, given, step, nodeAt}
-use Rattle.press_nodes.specs.Tables.{linksIn, clauseWords, nodesIn, Links, Nodes, Sound}
+use Rattle.press_nodes.specs.Tables.{linksIn, clauseWords, nodesIn, Nodes, Sound}
 use Rattle.press_spec.specs.Order.{placed, numberIn, renumber, orderFrom, laid, InOrder}
-use Rattle.press_spec.specs.Links.{link, links, linkAt, Parents}
+use Rattle.press_spec.specs.Links.{link, links, Parents}
 use Rattle.press_spec.proofs.Nodes.{length-more, nodeAt-before, nodeAt-end, link-at}
 use Rattle.press_spec.proofs.Ordered.{Ordering, orderFrom-ends}
-use Rattle.press_spec.proofs.Laid.{number-below, length-laid, laid-some, laid-fits}
-use Rattle.press_nodes.proofs.Tables.{nodes-take, links-nodes, nodes-length, link-in, links-falling}
+use Rattle.press_spec.proofs.Laid.{number-below, length-laid, laid-fits}
+use Rattle.press_nodes.proofs.Tables.{links-nodes, nodes-length, link-in, links-falling}
+use Rattle.press_order.specs.Placing.{Orderly}
 use Rattle.press_order.proofs.Placing.{links-closed}
 
 -- ---- sound again
@@ -49,34 +49,30 @@ module _ {h c : List ℕ} (tables : Nodes h c) (from : ℕ) (inside : from < len
   abbrev order : List ℕ
   order = orderFrom (linksIn h) from
 
-  ordering : Ordering (links (nodesIn h c)) Q from (orderFrom (linksIn h) from)
-  ordering = rw (links-nodes h c) (orderFrom-ends (linksIn h) (links-falling (tables .linked)) Q (links-closed h (tables .linked)) from inside)
+  ordering : Ordering (linksIn h) Q from (orderFrom (linksIn h) from)
+  ordering = orderFrom-ends (linksIn h) (links-falling (tables .linked)) Q (links-closed h (tables .linked)) from inside
 
-  pub arranged-order : InOrder (links (nodesIn h c)) Q (orderFrom (linksIn h) from)
+  pub arranged-order : Orderly h (orderFrom (linksIn h) from)
   arranged-order = ordering .each
 
-  pub arranged-some : 1 ≤ length (laid (nodesIn h c) (orderFrom (linksIn h) from))
-  arranged-some = laid-some s Q from order ordering
+  of-nodes : InOrder (links (nodesIn h c)) Q (orderFrom (linksIn h) from)
+  of-nodes = rw (links-nodes h c) arranged-order
 
-  pub arranged-fits : length (laid (nodesIn h c) (orderFrom (linksIn h) from)) ≤ length h
-  arranged-fits = laid-fits s Q (length h) (λ n o. o) order arranged-order
+  pub arranged-fits : length (orderFrom (linksIn h) from) ≤ length h
+  arranged-fits = rw (length-laid s order) at (laid-fits s Q (length h) (λ n o. o) order of-nodes)
 
-  pub arranged-sound : (n : ℕ) → n < length (laid (nodesIn h c) (orderFrom (linksIn h) from))
-      → Sound n (link (nodeAt (laid (nodesIn h c) (orderFrom (linksIn h) from)) n))
-  arranged-sound = laid-sound s Q (λ n i. rw (← (link-in h c n i)) (tables .linked .sound n i)) order arranged-order
+  arranged-sound : (n : ℕ) → n < length (laid s order) → Sound n (link (nodeAt (laid s order) n))
+  arranged-sound = laid-sound s Q (λ n i. rw (← (link-in h c n i)) (tables .linked .sound n i)) order of-nodes
 
-  -- the first k entries of the new tables are sound nodes
-  pub arranged-nodes : (k : ℕ) (h2 c2 : List ℕ) → length h2 ≡ length h → length c2 ≡ clauseWords (length h)
-      → take k (nodesIn h2 c2) ≡ laid (nodesIn h c) (orderFrom (linksIn h) from) → k ≡ length (laid (nodesIn h c) (orderFrom (linksIn h) from))
-      → Nodes (take k h2) (take (clauseWords k) c2)
-  arranged-nodes k h2 c2 p q e l =
-      let fits : k ≤ length h = omega (arith, arranged-fits) in
-      let long : length (take k h2) ≡ k = length-take-le k h2 (omega arith) in
-      let same : nodesIn (take k h2) (take (clauseWords k) c2) ≡ laid s order = nodes-take k h2 c2 ∙ e in
+  -- the tables of the nodes laid out are sound
+  pub arranged-nodes : (h₂ c₂ : List ℕ) → nodesIn h₂ c₂ ≡ laid (nodesIn h c) (orderFrom (linksIn h) from) → length c₂ ≡ clauseWords (length h₂)
+      → Nodes h₂ c₂
+  arranged-nodes h₂ c₂ e size =
+      let long : length h₂ ≡ length order = sym (nodes-length h₂ c₂) ∙ ap length e ∙ length-laid s order in
       record {
         linked = record {
-          few = omega (arith, tables .linked .few);
-          sound = λ n o. rw (link-in (take k h2) (take (clauseWords k) c2) n o, same) (arranged-sound n (omega arith));
+          few = omega (arith, arranged-fits, tables .linked .few);
+          sound = λ n o. rw (link-in h₂ c₂ n o, e) (arranged-sound n (rw (length-laid s order, ← long) o));
         };
-        size = length-take-le (clauseWords k) c2 (omega arith) ∙ rw long;
+        size = size;
       }

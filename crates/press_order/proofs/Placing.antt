@@ -1,19 +1,19 @@
--- Placing in tables: what one store makes of an order and of the numbers, and what a call of `place` asks and gives.
+-- Placing in a table: what one store makes of the order that stands there, and what a call of `place` asks and gives.
 use Prim.Native.Nat.{ℕ, zero, suc, _+_, _≤_, _<_}
 use mathlib.Core.Path.{_≡_, refl, sym, ap, _∙_}
 use mathlib.Core.Bool.{Bool, true, false, cond}
 use mathlib.Core.List.{List, _∷_}
 use native.Mathlib.Omega.{arith}
 use native.Mathlib.Decide.{ℕ-discrete}
-use native.Mathlib.Numerals.{add-one}
 use lib.ListN.{length, getD, set}
 use lib.Seq.{getD-set-same, getD-set-other}
 use borrow.Author.Tests.{lt-ltb, le-ltb, eq-eqb, ne-eqb}
 use Rattle.base.proofs.Lists.{cond-both}
+use Rattle.sheet.specs.Editions.{capacity}
 use Rattle.press_nodes.specs.Tables.{linksIn, Links, Sound}
-use Rattle.press_spec.specs.Order.{placed, rightFirst, inTurn, premises, place, numberIn, InOrder}
+use Rattle.press_spec.specs.Order.{placed, rightFirst, inTurn, premises, place, numberIn}
 use Rattle.press_spec.specs.Links.{Link, leaf, join, linkAt, Parents}
-use Rattle.press_order.specs.Placing.{orderIn, Numbered, Placing}
+use Rattle.press_order.specs.Placing.{Numbered, Stands, Orderly, Placing}
 use Rattle.press_spec.proofs.Nodes.{falls-further}
 use Rattle.press_nodes.proofs.Tables.{links-falling}
 use Rattle.press_spec.proofs.Ordered.{place-old, place-new, place-placing}
@@ -21,51 +21,35 @@ use Rattle.press_spec.proofs.Counted.{order-fits}
 
 -- ---- the premise that goes first
 
-module _ (t : List ℕ) (l r i j x y : ℕ) where
-  pub right-goes : getD t i 0 < getD t j 0 → i ≡ l → j ≡ r → x ≡ cond (rightFirst (λ m. getD t m 0) l r) x y
+module _ (t : List ℕ) (l r i j x y : ℕ) (p : i ≡ l) (q : j ≡ r) where
+  pub right-goes : getD t i 0 < getD t j 0 → x ≡ cond (rightFirst (λ m. getD t m 0) l r) x y
   unfolding rightFirst
-  right-goes h p q = rw (← p, ← q, lt-ltb (getD t i 0) (getD t j 0) h)
+  right-goes h = rw (← p, ← q, lt-ltb (getD t i 0) (getD t j 0) h)
 
-  pub left-goes : getD t j 0 ≤ getD t i 0 → i ≡ l → j ≡ r → y ≡ cond (rightFirst (λ m. getD t m 0) l r) x y
+  pub left-goes : getD t j 0 ≤ getD t i 0 → y ≡ cond (rightFirst (λ m. getD t m 0) l r) x y
   unfolding rightFirst
-  left-goes h p q = rw (← p, ← q, le-ltb (getD t i 0) (getD t j 0) h)
+  left-goes h = rw (← p, ← q, le-ltb (getD t i 0) (getD t j 0) h)
 
--- ---- orders in tables
+-- ---- the order that stands in the table
 
-pub length-orderIn : (t : List ℕ) (k : ℕ) → length (orderIn t k) ≡ k
-unfolding orderIn
-length-orderIn t zero = refl
-length-orderIn t (suc k) = ap suc (length-orderIn t k)
-
-order-past : (t : List ℕ) (k i x : ℕ) → k ≤ i → orderIn (set t i x) k ≡ orderIn t k
-unfolding orderIn
-order-past t zero i x h = refl
-order-past t (suc k) i x h = rw (getD-set-other t i k x 0 (omega arith), order-past t k i x (omega arith))
-
-pub order-put : (t : List ℕ) (k i x : ℕ) → i ≡ k → k < length t → orderIn (set t i x) (k + 1) ≡ x ∷ orderIn t k
-unfolding orderIn
-order-put t k i x e h = rw (e, add-one k, getD-set-same t k x 0 h, order-past t k k x (omega arith))
-
--- ---- numbers
-
-numbered-more : (numbers order : List ℕ) (n : ℕ) → n < length numbers → Numbered numbers order → Numbered (set numbers n (suc (length order))) (n ∷ order)
+pub stands-more : {numbers order : List ℕ} {n i count : ℕ} → i ≡ n → n < length numbers → Stands numbers count order
+    → Stands (set numbers i (count + 1)) (count + 1) (n ∷ order)
 unfolding placed numberIn
-numbered-more numbers order n h f m = elim (ℕ-discrete m n) [
-  | yes e ↦ rw (e, eq-eqb n n refl) (getD-set-same numbers n (suc (length order)) 0 h)
-  | no e ↦ rw (ne-eqb m n e) (getD-set-other numbers n m (suc (length order)) 0 e ∙ f m)
-]
-
-pub numbered-put : (numbers t : List ℕ) (k n i j : ℕ) → i ≡ n → j ≡ k → n < length numbers → k < length t → Numbered numbers (orderIn t k)
-    → Numbered (set numbers i (k + 1)) (orderIn (set t j n) (k + 1))
-numbered-put numbers t k n i j p q h o f =
-    let e : suc (length (orderIn t k)) ≡ k + 1 = omega (arith, length-orderIn t k) in
-    rw (order-put t k j n q o, p, ← e) (numbered-more numbers (orderIn t k) n h f)
+stands-more {numbers} {order} {n} {i} {count} same h f = record {
+  numbered = λ m.
+      let more : count + 1 ≡ suc (length order) = omega (arith, f .counts) in
+      elim (ℕ-discrete m n) [
+        | yes e ↦ rw (same, e, eq-eqb n n refl, more) (getD-set-same numbers n (suc (length order)) 0 h)
+        | no e ↦ rw (same, ne-eqb m n e) (getD-set-other numbers n m (count + 1) 0 e ∙ f .numbered m)
+      ];
+  counts = omega (arith, f .counts);
+}
 
 module _ (numbers order : List ℕ) (n : ℕ) (f : Numbered numbers order) where
-  by-place : (u : Bool) → placed n order ≡ u → getD numbers n 0 ≡ cond u (suc (numberIn order n)) 0
+  pub by-place : (u : Bool) → placed n order ≡ u → getD numbers n 0 ≡ cond u (suc (numberIn order n)) 0
   by-place u e = rw e at (f n)
 
-  has-place : (i : ℕ) → i ≡ n → (getD numbers i 0 ≡ 0 → ⊥) → placed n order ≡ true
+  pub has-place : (i : ℕ) → i ≡ n → (getD numbers i 0 ≡ 0 → ⊥) → placed n order ≡ true
   has-place i e h = by (placed n order) refl
     where
       by : (u : Bool) → placed n order ≡ u → u ≡ true
@@ -88,124 +72,128 @@ module _ (h : List ℕ) (tables : Links h) where
 
 -- ---- what placing makes of an order
 
+in-turn : (u : Bool) (go : ℕ → List ℕ → List ℕ) (l r : ℕ) (o : List ℕ) → go (cond u l r) (go (cond u r l) o) ≡ inTurn u go l r o
+unfolding inTurn
+in-turn true go l r o = refl
+in-turn false go l r o = refl
+
 module _ (s : List Link) (t : List ℕ) where
   abbrev uses : ℕ → ℕ
   uses m = getD t m 0
 
-  abbrev pub Made : ℕ → List ℕ → List ℕ → Type 0
-  Made n old new = (d : ℕ) → n < d → new ≡ place s (λ m. getD t m 0) d n old
+  -- from one table and its count to the next, node n is placed
+  abbrev pub Places : ℕ → List ℕ → ℕ → List ℕ → ℕ → Type 0
+  Places n numbers count numbers′ count′ =
+      (order : List ℕ) (d : ℕ) → Stands numbers count order → n < d → Stands numbers′ count′ (place s (λ m. getD t m 0) d n order)
 
-  in-turn : (u : Bool) (go : ℕ → List ℕ → List ℕ) (l r : ℕ) (o : List ℕ) → go (cond u l r) (go (cond u r l) o) ≡ inTurn u go l r o
-  unfolding inTurn
-  in-turn true go l r o = refl
-  in-turn false go l r o = refl
-
-  steps : (n p l r x y : ℕ) (o o₁ o₂ : List ℕ) → placed n o ≡ false → linkAt s n ≡ join p l r
-      → x ≡ cond (rightFirst uses l r) r l → y ≡ cond (rightFirst uses l r) l r → x < n → y < n → Made x o o₁ → Made y o₁ o₂ → Made n o (n ∷ o₂)
-  unfolding premises
-  steps n p l r x y o o₁ o₂ q a e f i j m₁ m₂ zero h = absurd (omega arith)
-  steps n p l r x y o o₁ o₂ q a e f i j m₁ m₂ (suc d) h =
-      let go : ℕ → List ℕ → List ℕ = λ k z. place s uses d k z in
-      let both : o₂ ≡ go y (go x o) = m₂ d (omega arith) ∙ ap (go y) (m₁ d (omega arith)) in
-      let turns : go y (go x o) ≡ inTurn (rightFirst uses l r) go l r o = rw (e, f) (in-turn (rightFirst uses l r) go l r o) in
-      ap (λ (z : List ℕ). n ∷ z) (both ∙ turns) ∙ sym (place-new s uses d n o q ∙ rw a)
-
--- ---- what a call of `place` asks and gives
-
-module _ {h t numbers order : List ℕ} {n k : ℕ} (P : Placing h t numbers order n k) where
+module _ {h t numbers : List ℕ} {n count : ℕ} (P : Placing h t numbers n count) where
   abbrev s : List Link
   s = linksIn h
 
-  abbrev old : List ℕ
-  old = orderIn order k
+  -- the order that is made of the one that stands there
+  abbrev made : ℕ → List ℕ
+  made m = place s (uses s t) (suc m) m (P .order)
 
-  abbrev Below : ℕ → Type 0
-  Below m = m < length h
-
-  made-in : (new : List ℕ) → Made s t n old new → InOrder s Below new
-  made-in new m =
-      rw (m (suc n) (omega arith))
-      (place-placing s (uses s t) (links-falling (P .tables)) Below (links-closed h (P .tables)) (suc n) n
-      old (omega arith) (P .inside) (P .orderly) .order)
-
-  -- there is room for n
-  pub made-fits : (order₁ : List ℕ) (k₁ : ℕ) → Made s t n old (n ∷ orderIn order₁ k₁) → k₁ < length h
-  made-fits order₁ k₁ m =
-      omega (
-        arith,
-        length-orderIn order₁ k₁,
-        order-fits s Below (length h) (λ i o. o) (n ∷ orderIn order₁ k₁) (made-in (n ∷ orderIn order₁ k₁) m),
-      )
-
-  -- another call, after this one
-  pub asks-next : (numbers₁ order₁ : List ℕ) (k₁ y : ℕ) → Made s t n old (orderIn order₁ k₁) → Numbered numbers₁ (orderIn order₁ k₁)
-      → length numbers₁ ≡ length numbers → length order₁ ≡ length order → y < length h → Placing h t numbers₁ order₁ y k₁
-  asks-next numbers₁ order₁ k₁ y m f p q i = record {
-    tables = P .tables;
-    inside = i;
-    counted = P .counted;
-    long = p ∙ P .long;
-    room = q ∙ P .room;
-    orderly = made-in (orderIn order₁ k₁) m;
-    numbered = f;
-  }
+  made-in : (m : ℕ) → m < length h → Orderly h (made m)
+  made-in m i =
+      place-placing s (uses s t) (links-falling (P .tables)) (λ k. k < length h) (links-closed h (P .tables)) (suc m) m (P .order) (omega arith) i (P .orderly) .order
 
   -- a call for a smaller node
-  pub asks-first : (x : ℕ) → x < n → Placing h t numbers order x k
+  pub asks-first : (x : ℕ) → x < n → Placing h t numbers x count
   asks-first x i = record {
     tables = P .tables;
     inside = omega (arith, P .inside);
     counted = P .counted;
     long = P .long;
-    room = P .room;
+    order = P .order;
     orderly = P .orderly;
-    numbered = P .numbered;
+    stands = P .stands;
   }
 
+  -- another call, after this one
+  pub asks-next : (numbers₁ : List ℕ) (count₁ y : ℕ) → Places s t n numbers count numbers₁ count₁ → length numbers₁ ≡ length numbers → y < length h
+      → Placing h t numbers₁ y count₁
+  asks-next numbers₁ count₁ y m long i = record {
+    tables = P .tables;
+    inside = i;
+    counted = P .counted;
+    long = long ∙ P .long;
+    order = made n;
+    orderly = made-in n (P .inside);
+    stands = m (P .order) (suc n) (P .stands) (omega arith);
+  }
+
+  -- there is room for n
+  pub made-fits : (numbers₁ : List ℕ) (count₁ : ℕ) (o : List ℕ) → Stands numbers₁ count₁ o → made n ≡ n ∷ o → count₁ < capacity
+  made-fits numbers₁ count₁ o f e =
+      omega (
+        arith,
+        f .counts,
+        ap length e,
+        order-fits s (λ k. k < length h) (length h) (λ i o. o) (made n) (made-in n (P .inside)),
+        P .tables .few,
+      )
+
   module _ {i : ℕ} (same : i ≡ n) where
-    pub made-old : (getD numbers i 0 ≡ 0 → ⊥) → Made s t n old old
-    made-old q zero o = absurd (omega arith)
-    made-old q (suc d) o = sym (place-old s (uses s t) d n old (has-place numbers old n (P .numbered) i same q))
+    pub places-old : (getD numbers i 0 ≡ 0 → ⊥) → Places s t n numbers count numbers count
+    places-old q order zero f o = absurd (omega arith)
+    places-old q order (suc d) f o = rw (place-old s (uses s t) d n order (has-place numbers order n (f .numbered) i same q)) f
 
     module _ (z : getD numbers i 0 ≡ 0) where
-      pub unplaced : placed n old ≡ false
-      unplaced = no-place numbers old n (P .numbered) i same z
+      new-place : (order : List ℕ) (d : ℕ) → Stands numbers count order
+          → place s (uses s t) (suc d) n order ≡ n ∷ premises (uses s t) (λ m o. place s (uses s t) d m o) (linkAt s n) order
+      new-place order d f = place-new s (uses s t) d n order (no-place numbers order n (f .numbered) i same z)
 
-      pub made-leaf : (line : ℕ) → linkAt s n ≡ leaf line → Made s t n old (n ∷ old)
-      unfolding premises
-      made-leaf line e zero o = absurd (omega arith)
-      made-leaf line e (suc d) o = sym (place-new s (uses s t) d n old unplaced ∙ rw e)
+      module _ {line : ℕ} (e : linkAt s n ≡ leaf line) where
+        leaf-made : (order : List ℕ) (d : ℕ) → Stands numbers count order → place s (uses s t) (suc d) n order ≡ n ∷ order
+        unfolding premises
+        leaf-made order d f = new-place order d f ∙ rw e
 
--- node n, which has no place yet, is a step of l and r
-pub record Stepping (h t numbers order : List ℕ) (n k l r : ℕ) : Type 0 where
-  pub asked : Placing h t numbers order n k
-  pub unplaced : placed n (orderIn order k) ≡ false
-  pub pivot : ℕ
-  pub is : linkAt (linksIn h) n ≡ join pivot l r
+        pub leaf-fits : count < capacity
+        leaf-fits = made-fits numbers count (P .order) (P .stands) (leaf-made (P .order) n (P .stands))
 
-module _ {h t numbers order : List ℕ} {n k l r : ℕ} (d : Stepping h t numbers order n k l r) where
-  sound : Sound n (join (d .pivot) l r)
-  sound = rw (d .is) at (d .asked .tables .sound n (d .asked .inside))
+        pub places-leaf : {numbers′ : List ℕ} {count′ : ℕ} → ((order : List ℕ) → Stands numbers count order → Stands numbers′ count′ (n ∷ order))
+            → Places s t n numbers count numbers′ count′
+        places-leaf put order zero f o = absurd (omega arith)
+        places-leaf put order (suc d) f o = rw (leaf-made order d f) (put order f)
 
-  pub left-inside : l < length t
-  left-inside = omega (arith, sound, d .asked .inside, d .asked .counted)
+      -- node n is a step of l and r
+      module _ {p l r : ℕ} (e : linkAt s n ≡ join p l r) where
+        sound : Sound n (join p l r)
+        sound = rw e at (P .tables .sound n (P .inside))
 
-  pub right-inside : r < length t
-  right-inside = omega (arith, sound, d .asked .inside, d .asked .counted)
+        pub left-inside : l < length t
+        left-inside = omega (arith, sound .1, P .inside, P .counted)
 
-  abbrev First : ℕ → Type 0
-  First x = x ≡ cond (rightFirst (λ m. getD t m 0) l r) r l
+        pub right-inside : r < length t
+        right-inside = omega (arith, sound .2, P .inside, P .counted)
 
-  abbrev Second : ℕ → Type 0
-  Second y = y ≡ cond (rightFirst (λ m. getD t m 0) l r) l r
+        module _ {x y : ℕ} (first : x ≡ cond (rightFirst (λ m. getD t m 0) l r) r l) (second : y ≡ cond (rightFirst (λ m. getD t m 0) l r) l r) where
+          pub first-below : x < n
+          first-below = rw first (cond-both (λ m. m < n) (rightFirst (λ m. getD t m 0) l r) r l (sound .2) (sound .1))
 
-  pub first-below : {x : ℕ} → First x → x < n
-  first-below f = rw f (cond-both (λ m. m < n) (rightFirst (λ m. getD t m 0) l r) r l (sound .2) (sound .1))
+          pub second-below : y < n
+          second-below = rw second (cond-both (λ m. m < n) (rightFirst (λ m. getD t m 0) l r) l r (sound .1) (sound .2))
 
-  pub second-below : {y : ℕ} → Second y → y < n
-  second-below f = rw f (cond-both (λ m. m < n) (rightFirst (λ m. getD t m 0) l r) l r (sound .1) (sound .2))
+          step-made : (order : List ℕ) (d : ℕ) → Stands numbers count order
+              → place s (uses s t) (suc d) n order ≡ n ∷ place s (uses s t) d y (place s (uses s t) d x order)
+          unfolding premises
+          step-made order d f =
+              let go : ℕ → List ℕ → List ℕ = λ m o. place s (uses s t) d m o in
+              let turns : go y (go x order) ≡ inTurn (rightFirst (uses s t) l r) go l r order = rw (first, second) (in-turn (rightFirst (uses s t) l r) go l r order) in
+              new-place order d f ∙ rw e (ap (λ (z : List ℕ). n ∷ z) (sym turns))
 
-  pub made-step : {x y : ℕ} (o₁ o₂ : List ℕ) → First x → Second y
-      → Made (linksIn h) t x (orderIn order k) o₁ → Made (linksIn h) t y o₁ o₂ → Made (linksIn h) t n (orderIn order k) (n ∷ o₂)
-  made-step {x} {y} o₁ o₂ f g m₁ m₂ =
-      steps (linksIn h) t n (d .pivot) l r x y (orderIn order k) o₁ o₂ (d .unplaced) (d .is) f g (first-below f) (second-below g) m₁ m₂
+          module _ {numbers₁ numbers₂ : List ℕ} {count₁ count₂ : ℕ}
+              (placed-first : Places s t x numbers count numbers₁ count₁) (placed-second : Places s t y numbers₁ count₁ numbers₂ count₂) where
+            both : (order : List ℕ) (d : ℕ) → Stands numbers count order → n < suc d
+                → Stands numbers₂ count₂ (place s (uses s t) d y (place s (uses s t) d x order))
+            both order d f o = placed-second _ d (placed-first order d f (omega (arith, first-below))) (omega (arith, second-below))
+
+            pub step-fits : count₂ < capacity
+            step-fits = made-fits numbers₂ count₂ _ (both (P .order) n (P .stands) (omega arith)) (step-made (P .order) n (P .stands))
+
+            pub places-step : {numbers′ : List ℕ} {count′ : ℕ}
+                → ((order : List ℕ) → Stands numbers₂ count₂ order → Stands numbers′ count′ (n ∷ order))
+                → Places s t n numbers count numbers′ count′
+            places-step put order zero f o = absurd (omega arith)
+            places-step put order (suc d) f o = rw (step-made order d f) (put _ (both order d f o))

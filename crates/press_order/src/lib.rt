@@ -2,13 +2,13 @@
 // each node once."
 ghost use mathlib.Core.Path.{_≡_};
 ghost use mathlib.Core.Bool.{cond};
-ghost use mathlib.Core.List.{_∷_};
-ghost use Prim.Native.Nat.{ℕ, _≤_, _<_};
+ghost use mathlib.Core.List.{List, _∷_};
+ghost use Prim.Native.Nat.{ℕ, _<_};
 ghost use lib.ListN.{length, getD};
 ghost use Rattle.sheet.specs.Editions.{capacity};
 ghost use Rattle.press_nodes.specs.Tables.{linksIn, Links};
 ghost use Rattle.press_spec.specs.Order.{rightFirst, place, orderFrom};
-ghost use Rattle.press_order.specs.Placing.{orderIn, Numbered, Placing};
+ghost use Rattle.press_order.specs.Placing.{Stands, Placing};
 use press_nodes::clear;
 use press_nodes::link;
 use press_nodes::link::Link;
@@ -16,87 +16,70 @@ use press_trim::uses;
 use sheet::NodeNo;
 use sheet::limits::CAPACITY;
 
-// x where premise r has more uses than premise l, and y otherwise.
-fn weigh(counts: &[u16], l: NodeNo, r: NodeNo, x: NodeNo, y: NodeNo) -> NodeNo
-    requires { ⌜ (l .0 < length (now counts)) × (r .0 < length (now counts)) ⌝ }
-    ensures { λ z. ⌜ z .0 ≡ cond (rightFirst (λ m. getD (now (counts .entry)) m 0) (l .0) (r .0)) (x .0) (y .0) ⌝ }
-{
-    let i = base::wide(l.0);
-    let j = base::wide(r.0);
-    if counts[i] < counts[j] {
-        return x;
-    }
-    y
+// The premises of a step, as they are placed.
+struct Premises {
+    first: NodeNo,
+    second: NodeNo,
 }
 
 // "Of two premises the one with more uses in the pressed proof goes first; equal: left."
-fn heavier(counts: &[u16], l: NodeNo, r: NodeNo) -> NodeNo
-    requires { ⌜ (l .0 < length (now counts)) × (r .0 < length (now counts)) ⌝ }
-    ensures { λ x. ⌜ x .0 ≡ cond (rightFirst (λ m. getD (now (counts .entry)) m 0) (l .0) (r .0)) (r .0) (l .0) ⌝ }
+fn in_turn(counts: &[u16], left: NodeNo, right: NodeNo) -> Premises
+    requires { ⌜ (left .0 < length (now counts)) × (right .0 < length (now counts)) ⌝ }
+    ensures first { λ p. ⌜ p .first .0 ≡ cond (rightFirst (λ m. getD (now (counts .entry)) m 0) (left .0) (right .0)) (right .0) (left .0) ⌝ }
+    ensures second { λ p. ⌜ p .second .0 ≡ cond (rightFirst (λ m. getD (now (counts .entry)) m 0) (left .0) (right .0)) (left .0) (right .0) ⌝ }
 {
-    weigh(counts, l, r, r, l)
+    let l = left.index();
+    let r = right.index();
+    if counts[l] < counts[r] {
+        return Premises {
+            first: right,
+            second: left,
+        };
+    }
+    Premises {
+        first: left,
+        second: right,
+    }
 }
 
-// The other premise.
-fn lighter(counts: &[u16], l: NodeNo, r: NodeNo) -> NodeNo
-    requires { ⌜ (l .0 < length (now counts)) × (r .0 < length (now counts)) ⌝ }
-    ensures { λ x. ⌜ x .0 ≡ cond (rightFirst (λ m. getD (now (counts .entry)) m 0) (l .0) (r .0)) (l .0) (r .0) ⌝ }
+// Node n comes next in the order, which has `count` nodes so far: how many it has then.
+fn put_next(n: NodeNo, numbers: &mut [u16], count: u16) -> u16
+    requires { ⌜ (n .0 < length (now numbers)) × (count < capacity) ⌝ }
+    ensures { λ r. ⌜ ((order : List ℕ) → Stands (now (numbers .entry)) count order → Stands (now (numbers .exit)) r (n .0 ∷ order)) ⌝ }
 {
-    weigh(counts, l, r, l, r)
-}
-
-// Node n comes next in the order.
-fn put_next(n: NodeNo, numbers: &mut [u16], order: &mut [u16], next: u16) -> u16
-    requires { ⌜ (n .0 < length (now numbers)) × (next < length (now order)) × (length (now order) ≤ capacity) ⌝ }
-    requires { ⌜ Numbered (now numbers) (orderIn (now order) next) ⌝ }
-    ensures order { λ r. ⌜ orderIn (now (order .exit)) r ≡ n .0 ∷ orderIn (now (order .entry)) next ⌝ }
-    ensures numbers { λ r. ⌜ Numbered (now (numbers .exit)) (orderIn (now (order .exit)) r) ⌝ }
-{
-    let i = base::wide(n.0);
-    let k = base::wide(next);
-    order[k] = n.0;
-    numbers[i] = next + 1;
-    next + 1
+    let i = n.index();
+    numbers[i] = count + 1;
+    count + 1
 }
 
 // Places node n, after its premises. "A parent's number in step 4 is always smaller than its child's": the node number falls at each call.
-fn place(
-    links: &[u64],
-    counts: &[u16],
-    n: NodeNo,
-    numbers: &mut [u16],
-    order: &mut [u16],
-    next: u16,
-) -> u16
-    requires { ⌜ Placing (now links) (now counts) (now numbers) (now order) (n .0) next ⌝ }
-    ensures order { λ r. ⌜ ((d : ℕ) → n .0 < d → orderIn (now (order .exit)) r ≡ place (linksIn (now (links .entry))) (λ m. getD (now (counts .entry)) m 0) d (n .0) (orderIn (now (order .entry)) next)) ⌝ }
-    ensures numbers { λ r. ⌜ Numbered (now (numbers .exit)) (orderIn (now (order .exit)) r) ⌝ }
+fn place(links: &[u64], counts: &[u16], n: NodeNo, numbers: &mut [u16], count: u16) -> u16
+    requires { ⌜ Placing (now links) (now counts) (now numbers) (n .0) count ⌝ }
+    ensures { λ r. ⌜ ((order : List ℕ) (d : ℕ) → Stands (now (numbers .entry)) count order → n .0 < d → Stands (now (numbers .exit)) r (place (linksIn (now (links .entry))) (λ m. getD (now (counts .entry)) m 0) d (n .0) order)) ⌝ }
 {
-    let i = base::wide(n.0);
+    let i = n.index();
     if numbers[i] != 0 {
-        return next;
+        return count;
     }
     let found = link::link_at(links, n);
     let Link::Join { left, right, .. } = found else {
-        return put_next(n, numbers, order, next);
+        return put_next(n, numbers, count);
     };
-    let a = heavier(counts, left, right);
-    let b = lighter(counts, left, right);
-    let one = place(links, counts, a, numbers, order, next);
-    let two = place(links, counts, b, numbers, order, one);
-    put_next(n, numbers, order, two)
+    let premises = in_turn(counts, left, right);
+    let with_first = place(links, counts, premises.first, numbers, count);
+    let with_both = place(links, counts, premises.second, numbers, with_first);
+    put_next(n, numbers, with_both)
 }
 
-// The order from a node, and how many it has.
-pub fn order_from(links: &[u64], from: NodeNo, numbers: &mut [u16], order: &mut [u16]) -> u16
+// 4 and 5: the places of what a node reaches, by its uses there, and how many there are.
+pub fn order_from(links: &[u64], from: NodeNo, numbers: &mut [u16]) -> u16
     requires { ⌜ Links (now links) ⌝ }
-    requires { ⌜ (length (now numbers) ≡ length (now links)) × (length (now order) ≡ length (now links)) × (from .0 < length (now links)) ⌝ }
-    ensures order { λ r. ⌜ orderIn (now (order .exit)) r ≡ orderFrom (linksIn (now (links .entry))) (from .0) ⌝ }
-    ensures numbers { λ r. ⌜ Numbered (now (numbers .exit)) (orderIn (now (order .exit)) r) ⌝ }
+    requires { ⌜ (length (now numbers) ≡ length (now links)) × (from .0 < length (now links)) ⌝ }
+    ensures { λ r. ⌜ Stands (now (numbers .exit)) r (orderFrom (linksIn (now (links .entry))) (from .0)) ⌝ }
 {
     let mut counts = [0u16; CAPACITY];
     let n = links.len();
     uses::uses_from(links, from, &mut counts[..n]);
     clear::clear_numbers(numbers);
-    place(links, &counts[..n], from, numbers, order, 0)
+    place(links, &counts[..n], from, numbers, 0)
 }

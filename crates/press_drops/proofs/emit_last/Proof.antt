@@ -18,21 +18,18 @@ returns c = let a = c .before .before .before .before .args in
     last-kept (after (a .from) (linksIn (a .links .now))) (a .n .0) (emissionOf (a .out .now) (a .e)) (sym (c .if1 .taken) ∙ c .before .named-from .ensures)
 
 emit-record-requires : tie.Need-emit-record-requires
-unfolding usedIn
-emit-record-requires c κs = let st = c .before .before .before .before .before in
-    let a = st .args in
-    let o = last-room (after (a .from) (linksIn (a .links .now))) (a .n .0) (emissionOf (a .out .now) (a .e)) (sym (c .before .if1 .left) ∙ c .before .before .named-from .ensures) (st .pre .1) in
-    (o .counts, o .bytes)
+unfolding recordOf usedIn
+emit-record-requires c κs = let a = c .before .before .before .before .before .args in
+    last-room (after (a .from) (linksIn (a .links .now))) (a .n .0) (emissionOf (a .out .now) (a .e)) (sym (c .before .if1 .left) ∙ c .before .before .named-from .ensures) (c .before .before .before .before .before .pre .1)
 
 same-length : tie.Need-same-length
 same-length c = search needs
 
 returns-2 : tie.Need-returns-2
 unfolding recordOf usedIn
-returns-2 c = let n = c .before .before .before .before .before in
-    let a = n .before .before .before .args in
+returns-2 c = let a = c .before .before .before .before .before .before .before .before .args in
     c .before .before .emit-record .ensures
-    ∙ last-dropped (after (a .from) (linksIn (a .links .now))) (a .n .0) (emissionOf (a .out .now) (a .e)) (sym (c .before .before .before .before .if1 .left) ∙ n .named-from .ensures)
+    ∙ last-dropped (after (a .from) (linksIn (a .links .now))) (a .n .0) (emissionOf (a .out .now) (a .e)) (sym (c .before .before .before .before .if1 .left) ∙ c .before .before .before .before .before .named-from .ensures)
 
 pub emit-last-spec : {M : Type 1} → statement M
 emit-last-spec =

@@ -6,7 +6,7 @@ use lib.ListN.{drop as after}
 use Rattle.press_nodes.specs.Tables.{linksIn}
 use Rattle.press_nodes.proofs.Tables.{links-length}
 use Rattle.press_spec.proofs.Playing.{usedIn}
-use Rattle.press_emit.proofs.Emitting.{named-here, named-later, named-none}
+use Rattle.press_drops.proofs.Named.{named-here, named-later, named-none}
 use borrow.Author.Needs.{needs}
 use Rattle.press_drops.proofs.named_from.Statement.{statement}
 use Rattle.press_drops.proofs.named_from.Tie as tie
@@ -20,20 +20,18 @@ abbrev μ-loop : tie.MeasureT-loop
 loop-holds : tie.Need-loop-holds Inv-loop μ-loop
 loop-holds c = refl
 
-wide-requires : tie.Need-wide-requires Inv-loop μ-loop
-wide-requires c κs = search needs
+cast-t8 : tie.Need-cast-t8 Inv-loop μ-loop
+cast-t8 c = search needs
 
 names-requires : tie.Need-names-requires Inv-loop μ-loop
-names-requires c κs = (c .before .before .before .before .pre, omega (arith, c .if1 .taken, c .before .wide .ensures))
+names-requires c κs = search needs
 
 returns : tie.Need-returns Inv-loop μ-loop
 unfolding usedIn
-returns c = let l = c .before .before .before .before in
-    let st = l .before .before in
-    let a = st .args in
-    let s = linksIn (a .links .now) in
-    named-here s (l .loop .m) (a .n .0) (rw (links-length (a .links .now)) (omega (arith, c .before .before .if1 .taken, c .before .before .before .wide .ensures))) (sym (c .if2 .taken) ∙ c .before .names .ensures)
-    ∙ l .loop .inv
+returns c = let a = c .before .before .before .before .before .args in
+    let l = c .before .before .before .loop in
+    named-here (linksIn (a .links .now)) (l .m) (a .n .0) (rw (links-length (a .links .now)) (omega arith)) (sym (c .if1 .taken) ∙ c .before .names .ensures)
+    ∙ l .inv
 
 add-m : tie.Need-add-m Inv-loop μ-loop
 add-m c = search needs
@@ -42,21 +40,17 @@ loop-less : tie.Need-loop-less Inv-loop μ-loop
 loop-less c = search needs
 
 loop-again : tie.Need-loop-again Inv-loop μ-loop
-loop-again c = let l = c .before .before .before .before in
-    let st = l .before .before in
-    let a = st .args in
-    let s = linksIn (a .links .now) in
-    sym (named-later s (l .loop .m) (a .n .0) (rw (links-length (a .links .now)) (omega (arith, c .before .before .if1 .taken, c .before .before .before .wide .ensures))) (sym (c .if2 .left) ∙ c .before .names .ensures))
-    ∙ l .loop .inv
+loop-again c = let a = c .before .before .before .before .before .args in
+    let l = c .before .before .before .loop in
+    sym (named-later (linksIn (a .links .now)) (l .m) (a .n .0) (rw (links-length (a .links .now)) (omega arith)) (sym (c .if1 .left) ∙ c .before .names .ensures))
+    ∙ l .inv
 
 returns-2 : tie.Need-returns-2 Inv-loop μ-loop
 unfolding usedIn
-returns-2 c = let l = c .before .before in
-    let st = l .before .before in
-    let a = st .args in
-    let s = linksIn (a .links .now) in
-    named-none s (l .loop .m) (a .n .0) (rw (links-length (a .links .now)) (omega (arith, c .if1 .left, c .before .wide .ensures)))
-    ∙ l .loop .inv
+returns-2 c = let a = c .before .before .before .args in
+    let l = c .before .loop in
+    named-none (linksIn (a .links .now)) (l .m) (a .n .0) (rw (links-length (a .links .now)) (omega arith))
+    ∙ l .inv
 
 pub named-from-spec : {M : Type 1} → statement M
 named-from-spec =
@@ -65,7 +59,7 @@ named-from-spec =
     Inv-loop
     μ-loop
     loop-holds
-    wide-requires
+    cast-t8
     names-requires
     returns
     add-m

@@ -1,5 +1,5 @@
 use Rattle.press_nodes.proofs.Found.{found-leaf, found-join}
-use Rattle.press_emit.proofs.Emitting.{names-leaf, names-left, names-right}
+use Rattle.press_drops.proofs.Named.{names-leaf, names-left, names-right}
 use borrow.Author.Needs.{needs}
 use Rattle.press_drops.proofs.names.Statement.{statement}
 use Rattle.press_drops.proofs.names.Tie as tie

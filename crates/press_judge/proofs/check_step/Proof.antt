@@ -1,7 +1,8 @@
-use Prim.Native.Nat.{_≤_}
-use lib.ListN.{length}
-use mathlib.Core.Path.{sym, ap₂, _∙_}
+use mathlib.Core.Path.{_≡_, sym, ap₂, _∙_}
+use mathlib.Core.List.{List}
 use native.Mathlib.Omega.{arith}
+use Prim.Native.Nat.{ℕ, _≤_}
+use lib.ListN.{length}
 use Rattle.clause.specs.Clauses.{Literals}
 use Rattle.clause.specs.Denote.{literalsOf}
 use Rattle.sheet.specs.Checks.{checkStep}
@@ -13,6 +14,15 @@ use borrow.Author.Needs.{needs}
 use Rattle.press_judge.proofs.check_step.Statement.{statement}
 use Rattle.press_judge.proofs.check_step.Tie as tie
 
+-- ---- the step, after the first nodes of any table that has as many
+
+module _ (st : tie.Start) (links : List ℕ) (fits : st .args .next .0 ≤ length links) where
+  abbrev next : ℕ
+  next = st .args .next .0
+
+  inside : next ≤ length (nodesIn links (st .args .clauses .now))
+  inside = rw (nodes-length links (st .args .clauses .now)) fits
+
 check-earlier-requires : tie.Need-check-earlier-requires
 check-earlier-requires c κs = search needs
 
@@ -23,12 +33,8 @@ enum-told-2 : tie.Need-enum-told-2
 enum-told-2 c = search needs
 
 returns : tie.Need-returns
-returns c = let st = c .before .before .before .before .before in
-    let a = st .args in
-    let s = nodesIn (a .links .now) (a .clauses .now) in
-    let h : a .next .0 ≤ length s = rw (nodes-length (a .links .now) (a .clauses .now)) (st .pre .1) in
-    λ rules. c .enum-told2 .given .1
-    ∙ sym (left-late s (a .next .0) h rules (a .p) (a .l .0) (a .r .0) (literalsOf (a .c)) _ (sym (c .before .before .check-earlier .ensures) ∙ c .enum-told2 .given .1))
+returns c = λ rules links fits. let a = c .before .before .before .before .args in c .enum-told2 .given .1
+    ∙ sym (left-late _ (a .next .0) (inside (c .before .before .before .before) links fits) rules (a .pivot) (a .left .0) (a .right .0) (literalsOf (a .written)) _ (sym (c .before .before .check-earlier .ensures) ∙ c .enum-told2 .given .1))
 
 check-earlier-requires-2 : tie.Need-check-earlier-requires-2
 check-earlier-requires-2 c κs = search needs
@@ -40,39 +46,27 @@ enum-told-4 : tie.Need-enum-told-4
 enum-told-4 c = search needs
 
 returns-2 : tie.Need-returns-2
-returns-2 c = let l = c .before .before .before in
-    let st = l .before .before .before .before .before in
-    let a = st .args in
-    let s = nodesIn (a .links .now) (a .clauses .now) in
-    let h : a .next .0 ≤ length s = rw (nodes-length (a .links .now) (a .clauses .now)) (st .pre .1) in
-    λ rules. c .enum-told4 .given .1
-    ∙ sym (right-late s (a .next .0) h rules (a .p) (a .l .0) (a .r .0) (literalsOf (a .c)) _ (sym (l .before .before .check-earlier .ensures) ∙ l .enum-told .given .1) (sym (c .before .before .check-earlier2 .ensures) ∙ c .enum-told4 .given .1))
+returns-2 c = λ rules links fits. let a = c .before .before .before .before .before .before .before .args in c .enum-told4 .given .1
+    ∙ sym (right-late _ (a .next .0) (inside (c .before .before .before .before .before .before .before) links fits) rules (a .pivot) (a .left .0) (a .right .0) (literalsOf (a .written)) _ (sym (c .before .before .before .before .before .check-earlier .ensures) ∙ c .before .before .before .enum-told .given .1) (sym (c .before .before .check-earlier2 .ensures) ∙ c .enum-told4 .given .1))
 
 clause-at-requires : tie.Need-clause-at-requires
-clause-at-requires c κs = let l = c .before .before .before in
-    let st = l .before .before .before .before .before in
-    omega (arith, st .pre .0, st .pre .1, earlier-fine (st .args .next .0) (st .args .l .0) (sym (l .before .before .check-earlier .ensures) ∙ l .enum-told .given .1))
+clause-at-requires c κs = let a = c .before .before .before .before .before .before .before .args in omega (arith, c .before .before .before .before .before .before .before .pre, earlier-fine (a .next .0) (a .left .0) (sym (c .before .before .before .before .before .check-earlier .ensures) ∙ c .before .before .before .enum-told .given .1))
 
 clause-at-requires-2 : tie.Need-clause-at-requires-2
-clause-at-requires-2 c κs = let l = c .before .before .before .before in
-    let st = l .before .before .before .before .before in
-    omega (arith, st .pre .0, st .pre .1, earlier-fine (st .args .next .0) (st .args .r .0) (sym (c .before .before .before .check-earlier2 .ensures) ∙ c .before .enum-told3 .given .1))
+clause-at-requires-2 c κs = let a = c .before .before .before .before .before .before .before .before .args in omega (arith, c .before .before .before .before .before .before .before .before .pre, earlier-fine (a .next .0) (a .right .0) (sym (c .before .before .before .check-earlier2 .ensures) ∙ c .before .enum-told3 .given .1))
 
 check-step-requires : tie.Need-check-step-requires
 check-step-requires c κs = search needs
 
 returns-3 : tie.Need-returns-3
-returns-3 c = let r = c .before .before .before in
-    let l = r .before .before .before in
-    let st = l .before .before .before .before .before in
-    let a = st .args in
-    let s = nodesIn (a .links .now) (a .clauses .now) in
-    let h : a .next .0 ≤ length s = rw (nodes-length (a .links .now) (a .clauses .now)) (st .pre .1) in
-    let early = sym (l .before .before .check-earlier .ensures) ∙ l .enum-told .given .1 in
-    let early2 = sym (r .before .before .check-earlier2 .ensures) ∙ r .enum-told3 .given .1 in
-    λ rules. c .check-step .ensures
-    ∙ ap₂ (λ (x y : Literals). checkStep (a .p) x y (literalsOf (a .c))) (c .before .before .clause-at .ensures ∙ clauses-at (a .links .now) (a .clauses .now) (a .l .0) (omega (arith, st .pre .1, earlier-fine (a .next .0) (a .l .0) early))) (c .before .clause-at2 .ensures ∙ clauses-at (a .links .now) (a .clauses .now) (a .r .0) (omega (arith, st .pre .1, earlier-fine (a .next .0) (a .r .0) early2)))
-    ∙ sym (both-early s (a .next .0) h rules (a .p) (a .l .0) (a .r .0) (literalsOf (a .c)) early early2)
+returns-3 c = λ rules links fits. let a = c .before .before .before .before .before .before .before .before .before .before .args in
+    let early = sym (c .before .before .before .before .before .before .before .before .check-earlier .ensures) ∙ c .before .before .before .before .before .before .enum-told .given .1 in
+    let early2 = sym (c .before .before .before .before .before .check-earlier2 .ensures) ∙ c .before .before .before .enum-told3 .given .1 in
+    let left = clauses-at links (a .clauses .now) (a .left .0) (omega (arith, fits, earlier-fine (a .next .0) (a .left .0) early)) in
+    let right = clauses-at links (a .clauses .now) (a .right .0) (omega (arith, fits, earlier-fine (a .next .0) (a .right .0) early2)) in
+    c .check-step .ensures
+    ∙ ap₂ (λ (x y : Literals). checkStep (a .pivot) x y (literalsOf (a .written))) (c .before .before .clause-at .ensures ∙ left) (c .before .clause-at2 .ensures ∙ right)
+    ∙ sym (both-early _ (a .next .0) (inside (c .before .before .before .before .before .before .before .before .before .before) links fits) rules (a .pivot) (a .left .0) (a .right .0) (literalsOf (a .written)) early early2)
 
 pub check-step-spec : {M : Type 1} → statement M
 check-step-spec =

@@ -1,9 +1,11 @@
 use mathlib.Core.Path.{_≡_, refl, sym, ap, _∙_}
-use Prim.Native.Nat.{_+_, _*_, _-_, _≤_}
+use mathlib.Core.List.{List}
+use Prim.Native.Nat.{ℕ, _+_, _-_, _*_, _<_, _≤_}
 use native.Mathlib.Omega.{arith}
-use lib.ListN.{length, length-take, length-drop}
-use Rattle.sheet.specs.Editions.{narrow}
+use lib.ListN.{length, take, drop, length-take, length-drop}
+use Rattle.sheet.specs.Editions.{narrow, recordBytes}
 use Rattle.sheet.specs.Fields.{recordAt}
+use Rattle.sheet.specs.Records.{Node}
 use Rattle.sheet.proofs.RecordBytes.{lent-is}
 use Rattle.press_spec.specs.Judge.{bad}
 use Rattle.press_nodes.specs.Tables.{clauseWords, nodesIn}
@@ -14,23 +16,32 @@ use borrow.Author.Needs.{needs}
 use Rattle.press_judge.proofs.judge.Statement.{statement}
 use Rattle.press_judge.proofs.judge.Tie as tie
 
+-- the bytes that are lent are the record's
+lent-here : (sheet : List ℕ) {at k n : ℕ} → at ≡ recordBytes narrow * k → k ≡ n → take (at + recordBytes narrow - at) (drop at sheet) ≡ recordAt narrow sheet n
+lent-here sheet {at} {k} {n} e q =
+    ap (λ (i : ℕ). take (i + recordBytes narrow - i) (drop i sheet)) (e ∙ ap (λ (j : ℕ). recordBytes narrow * j) q) ∙ lent-is sheet n
+
 abbrev Inv-loop : tie.InvT-loop
-Inv-loop sheet rules links₀ clauses₀ count k₀ links clauses k = (k ≤ count) × (count ≡ length links₀) × (length links ≡ length links₀) × (length clauses ≡ clauseWords (length links₀)) × Left rules sheet count k (nodesIn links clauses)
+Inv-loop sheet rules links₀ clauses₀ count judged₀ links clauses judged = (judged ≤ count)
+    × (count ≡ length links₀)
+    × (length links ≡ length links₀)
+    × (length clauses ≡ clauseWords (length links₀))
+    × Left rules sheet count judged (nodesIn links clauses)
 
 abbrev μ-loop : tie.MeasureT-loop
-μ-loop sheet rules links₀ clauses₀ count k₀ links clauses k = count - k
+μ-loop sheet rules links₀ clauses₀ count judged₀ links clauses judged = count - judged
 
 loop-holds : tie.Need-loop-holds Inv-loop μ-loop
 loop-holds c = let st = c .before .before .before .before in (omega arith, refl, refl, st .pre .0 .0, judge-begins _ _ (length (st .args .links .now)) (nodesIn (st .args .links .now) (st .args .clauses .now)) (st .pre .1))
 
-wide-requires : tie.Need-wide-requires Inv-loop μ-loop
-wide-requires c κs = search needs
+cast-t14 : tie.Need-cast-t14 Inv-loop μ-loop
+cast-t14 c = search needs
 
-wide-requires-2 : tie.Need-wide-requires-2 Inv-loop μ-loop
-wide-requires-2 c κs = search needs
+record-of-requires : tie.Need-record-of-requires Inv-loop μ-loop
+record-of-requires c κs = search needs
 
-mul-at : tie.Need-mul-at Inv-loop μ-loop
-mul-at c = search needs
+start-requires : tie.Need-start-requires Inv-loop μ-loop
+start-requires c κs = omega (arith, c .record-of .ensures, c .before .loop-test .taken, c .before .before .loop .inv .1, c .before .before .before .before .before .before .before .pre .0 .1)
 
 add-end : tie.Need-add-end Inv-loop μ-loop
 add-end c = search needs
@@ -45,23 +56,17 @@ part-judge-turn-end : tie.Need-part-judge-turn-end Inv-loop μ-loop
 part-judge-turn-end c = search needs
 
 judge-turn-requires : tie.Need-judge-turn-requires Inv-loop μ-loop
-judge-turn-requires c κs = let inv = c .before .before .before .before .before .before .loop .inv in
-    let st = c .before .before .before .before .before .before .before .before .before .before .before in
-    let w = c .before .before .before in
-    let size : 24 * w .wide2 .result + 24 - 24 * w .wide2 .result ≡ 24 = omega arith in (
-      omega (arith, inv .2, inv .3),
-      omega (arith, inv .2, w .before .if1 .taken, w .before .before .wide .ensures),
-      rw (length-take, length-drop) (omega (arith, st .pre .1, w .before .if1 .taken, w .before .before .wide .ensures, w .wide2 .ensures)),
-    )
+judge-turn-requires c κs = let inv = c .before .before .before .before .before .before .loop .inv in (
+  omega (arith, inv .2, inv .3),
+  omega (arith, inv .1, inv .2, c .before .before .before .before .before .loop-test .taken),
+  rw (length-take, length-drop) (omega (arith, c .before .before .before .before .before .before .before .before .before .before .before .pre .1, inv .1, c .before .before .before .before .before .loop-test .taken, c .before .before .before .before .record-of .ensures, c .before .before .before .start .ensures)),
+)
 
 enum-told : tie.Need-enum-told Inv-loop μ-loop
 enum-told c = search needs
 
 enum-known-verdict : tie.Need-enum-known-verdict Inv-loop μ-loop
 enum-known-verdict c = search needs
-
-wide-requires-3 : tie.Need-wide-requires-3 Inv-loop μ-loop
-wide-requires-3 c κs = search needs
 
 same-length : tie.Need-same-length Inv-loop μ-loop
 same-length c = search needs
@@ -71,36 +76,30 @@ same-length-2 c = search needs
 
 returns : tie.Need-returns Inv-loop μ-loop
 unfolding judgedIn
-returns c = let j = c .before .before .before .before .before .before .before .before in
-    let w = j .before .before .before .before in
-    let l = w .before .before .before in
-    let st = l .before .before .before .before .before in
-    let inv = l .loop .inv in
-    let s = nodesIn (l .loop .links) (l .loop .clauses) in
-    let why = c .before .before .verdict .given .0 .0 in
-    ap (bad why) (c .wide3 .ensures)
-    ∙ judge-halts (st .args .rules .now) (st .args .sheet .now) (length (st .args .links .now)) (l .loop .k) (omega (arith, w .before .if1 .taken, w .before .before .wide .ensures)) s
-    (nodes-length (l .loop .links) (l .loop .clauses) ∙ inv .2) (inv .4) _ (lent-is (st .args .sheet .now) (w .wide2 .result) ∙ ap (recordAt narrow (st .args .sheet .now)) (w .wide2 .ensures)) _ why _ (c .before .before .verdict .given .1) (j .judge-turn .ensures)
+returns c = let l = c .before .before .before .before .before .before .before .before .before .before .before .before .before .before .loop in
+    let a = c .before .before .before .before .before .before .before .before .before .before .before .before .before .before .before .before .before .before .before .args in
+    let inv = l .inv in
+    let why = c .before .verdict .given .0 .0 in
+    ap (bad why) (c .before .before .before .before .before .before .before .before .before .before .before .before .record-of .ensures)
+    ∙ judge-halts (a .rules .now) (a .sheet .now) (length (a .links .now)) (l .judged) (omega (arith, inv .1, c .before .before .before .before .before .before .before .before .before .before .before .before .before .loop-test .taken)) (nodesIn (l .links) (l .clauses))
+    (nodes-length (l .links) (l .clauses) ∙ inv .2) (inv .4) _ (lent-here (a .sheet .now) (c .before .before .before .before .before .before .before .before .before .before .before .start .ensures) (c .before .before .before .before .before .before .before .before .before .before .before .before .record-of .ensures)) _ why _ (c .before .verdict .given .1) (c .before .before .before .before .before .before .before .judge-turn .ensures)
 
-add-k : tie.Need-add-k Inv-loop μ-loop
-add-k c = search needs
+add-judged : tie.Need-add-judged Inv-loop μ-loop
+add-judged c = search needs
 
 loop-less : tie.Need-loop-less Inv-loop μ-loop
 loop-less c = search needs
 
 loop-again : tie.Need-loop-again Inv-loop μ-loop
-loop-again c = let j = c .before .before .before .before .before .before in
-    let w = j .before .before .before .before in
-    let l = w .before .before .before in
-    let st = l .before .before .before .before .before in
-    let inv = l .loop .inv in
-    let s = nodesIn (l .loop .links) (l .loop .clauses) in (
-      omega (arith, w .before .if1 .taken, w .before .before .wide .ensures),
+loop-again c = let l = c .before .before .before .before .before .before .before .before .before .before .before .before .before .loop in
+    let a = c .before .before .before .before .before .before .before .before .before .before .before .before .before .before .before .before .before .before .args in
+    let inv = l .inv in (
+      omega (arith, inv .1, c .before .before .before .before .before .before .before .before .before .before .before .before .loop-test .taken),
       inv .1,
-      j .judge-turn .kept .1 .1 .0 ∙ inv .2,
-      j .judge-turn .kept .1 .1 .1 .0 ∙ inv .3,
-      judge-goes (st .args .rules .now) (st .args .sheet .now) (length (st .args .links .now)) (l .loop .k) (omega (arith, w .before .if1 .taken, w .before .before .wide .ensures)) s
-          (nodes-length (l .loop .links) (l .loop .clauses) ∙ inv .2) (inv .4) _ (lent-is (st .args .sheet .now) (w .wide2 .result) ∙ ap (recordAt narrow (st .args .sheet .now)) (w .wide2 .ensures)) _ _ (c .enum-told .given .1) (j .judge-turn .ensures),
+      c .before .before .before .before .before .before .judge-turn .kept .1 .1 .0 ∙ inv .2,
+      c .before .before .before .before .before .before .judge-turn .kept .1 .1 .1 .0 ∙ inv .3,
+      judge-goes (a .rules .now) (a .sheet .now) (length (a .links .now)) (l .judged) (omega (arith, inv .1, c .before .before .before .before .before .before .before .before .before .before .before .before .loop-test .taken)) (nodesIn (l .links) (l .clauses))
+          (nodes-length (l .links) (l .clauses) ∙ inv .2) (inv .4) _ (lent-here (a .sheet .now) (c .before .before .before .before .before .before .before .before .before .before .start .ensures) (c .before .before .before .before .before .before .before .before .before .before .before .record-of .ensures)) _ _ (c .enum-told .given .1) (c .before .before .before .before .before .before .judge-turn .ensures),
     )
 
 same-length-3 : tie.Need-same-length-3 Inv-loop μ-loop
@@ -111,12 +110,11 @@ same-length-4 c = search needs
 
 returns-2 : tie.Need-returns-2 Inv-loop μ-loop
 unfolding judgedIn
-returns-2 c = let l = c .before .before in
-    let st = l .before .before .before .before .before in
-    let inv = l .loop .inv in
-    let s = nodesIn (l .loop .links) (l .loop .clauses) in
-    judge-ends (st .args .rules .now) (st .args .sheet .now) (length (st .args .links .now)) (l .loop .k) s
-    (nodes-length (l .loop .links) (l .loop .clauses) ∙ inv .2) (inv .0) (omega (arith, c .if1 .left, c .before .wide .ensures)) (inv .4)
+returns-2 c = let l = c .before .loop in
+    let a = c .before .before .before .before .before .before .args in
+    let inv = l .inv in
+    judge-ends (a .rules .now) (a .sheet .now) (length (a .links .now)) (l .judged) (nodesIn (l .links) (l .clauses))
+    (nodes-length (l .links) (l .clauses) ∙ inv .2) (inv .0) (omega (arith, inv .1, c .loop-test .left)) (inv .4)
 
 pub judge-spec : {M : Type 1} → statement M
 judge-spec =
@@ -125,9 +123,9 @@ judge-spec =
     Inv-loop
     μ-loop
     loop-holds
-    wide-requires
-    wide-requires-2
-    mul-at
+    cast-t14
+    record-of-requires
+    start-requires
     add-end
     sub-judge-turn
     part-judge-turn-start
@@ -135,11 +133,10 @@ judge-spec =
     judge-turn-requires
     enum-told
     enum-known-verdict
-    wide-requires-3
     same-length
     same-length-2
     returns
-    add-k
+    add-judged
     loop-less
     loop-again
     same-length-3

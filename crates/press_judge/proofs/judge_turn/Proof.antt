@@ -1,5 +1,6 @@
 use mathlib.Core.Path.{sym, ap, _∙_}
 use mathlib.Core.List.{List}
+use native.Mathlib.Omega.{arith}
 use Rattle.clause.specs.Denote.{literalsOf}
 use Rattle.sheet.specs.declared.Verdict.{Verdict}
 use Rattle.sheet.specs.declared.Verdict.the-variants.{Refused}
@@ -28,24 +29,25 @@ abbrev read-of : tie.After-reading → tie.After-read-record
 read-of y = y .before .before
 
 given-here : (g : tie.After-check-given) → let m = g .before .before in
-    CheckedHere (read-of (m .before .before .before)) (given (m .«record» .given .0 .0 .0) (literalsOf (m .«record» .given .0 .1 .0))) (g .check-given .result)
+    CheckedHere (read-of (g .before .before .before .before .before)) (given (m .«record» .given .0 .0 .0) (literalsOf (m .«record» .given .0 .1 .0))) (g .check-given .result)
 unfolding readingOf recordOf
 given-here g = let m = g .before .before in
-    let y = m .before .before .before in
+    let y = g .before .before .before .before .before in
     record {
       read = sym (read-of y .read-record .ensures) ∙ ap readingOf (y .reading .given .1 ∙ ap Reads (m .«record» .given .1));
       says = g .check-given .ensures ∙ sym (given-checked _ _ _ _);
     }
 
-step-here : (g : tie.After-check-step) → let m = g .before .before .before .before in
+step-here : (g : tie.After-check-step) → let m = g .before .before .before in
     let found = m .record2 .given .0 in
-    CheckedHere (read-of (m .before .before .before)) (step (found .0) (found .1 .0 .0) (found .1 .1 .0 .0) (literalsOf (found .1 .1 .1 .0))) (g .check-step .result)
+    CheckedHere (read-of (g .before .before .before .before .before .before)) (step (found .0) (found .1 .0 .0) (found .1 .1 .0 .0) (literalsOf (found .1 .1 .1 .0))) (g .check-step .result)
 unfolding readingOf recordOf
-step-here g = let m = g .before .before .before .before in
-    let y = m .before .before .before in
+step-here g = let m = g .before .before .before in
+    let y = g .before .before .before .before .before .before in
+    let a = start (read-of y) .args in
     record {
       read = sym (read-of y .read-record .ensures) ∙ ap readingOf (y .reading .given .1 ∙ ap Reads (m .record2 .given .1));
-      says = g .check-step .ensures (start (read-of y) .args .rules .now);
+      says = g .check-step .ensures (a .rules .now) (a .links .now) (omega (arith, start (read-of y) .pre .1));
     }
 
 -- ---- the needs
@@ -101,9 +103,6 @@ enum-told-5 c = search needs
 same-length : tie.Need-same-length
 same-length c = search needs
 
-same-length-2 : tie.Need-same-length-2
-same-length-2 c = search needs
-
 returns-3 : tie.Need-returns-3
 returns-3 c = turn-refused (step-here (c .before .before)) (c .enum-told5 .given .1)
 
@@ -113,27 +112,23 @@ put-step-requires c κs = search needs
 enum-told-6 : tie.Need-enum-told-6
 enum-told-6 c = search needs
 
+same-length-2 : tie.Need-same-length-2
+same-length-2 c = search needs
+
 same-length-3 : tie.Need-same-length-3
 same-length-3 c = search needs
+
+returns-4 : tie.Need-returns-4
+returns-4 c = turn-fine (given-here (c .before .before .before .before .before .before .before .before .before)) (c .before .before .before .before .before .before .before .enum-told2 .given .1) (c .before .before .before .before .put-given .ensures)
 
 same-length-4 : tie.Need-same-length-4
 same-length-4 c = search needs
 
-returns-4 : tie.Need-returns-4
-returns-4 c = let put = c .before .before .before .before in
-    let told = put .before .before .before in
-    turn-fine (given-here (told .before .before)) (told .enum-told2 .given .1) (put .put-given .ensures)
-
 same-length-5 : tie.Need-same-length-5
 same-length-5 c = search needs
 
-same-length-6 : tie.Need-same-length-6
-same-length-6 c = search needs
-
 returns-5 : tie.Need-returns-5
-returns-5 c = let put = c .before .before .before .before in
-    let told = put .before .before .before in
-    turn-fine (step-here (told .before .before)) (told .enum-told4 .given .1) (put .put-step .ensures)
+returns-5 c = turn-fine (step-here (c .before .before .before .before .before .before .before .before .before)) (c .before .before .before .before .before .before .before .enum-told4 .given .1) (c .before .before .before .before .put-step .ensures)
 
 returns-6 : tie.Need-returns-6
 unfolding readingOf recordOf
@@ -161,14 +156,13 @@ judge-turn-spec =
     enum-told-4
     enum-told-5
     same-length
-    same-length-2
     returns-3
     put-step-requires
     enum-told-6
+    same-length-2
     same-length-3
-    same-length-4
     returns-4
+    same-length-4
     same-length-5
-    same-length-6
     returns-5
     returns-6)

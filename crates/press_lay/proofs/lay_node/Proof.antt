@@ -40,7 +40,7 @@ same-length-2 c = search needs
 
 returns : tie.Need-returns
 returns c = let a = c .before .before .before .before .before .before .before .before .before .before .before .before .before .args in
-    let old = nodesIn (a .links2 .now) (a .clauses2 .now) in
+    let old = nodesIn (a .pressed-links .now) (a .pressed-clauses .now) in
     λ m e. c .before .before .before .before .put-given .ensures ∙ ap (λ (y : Node). set old (a .k .0) y) (lays-given _ (a .numbers .now) m e (c .before .before .before .before .before .before .before .before .found .given .1))
 
 same-length-3 : tie.Need-same-length-3
@@ -51,7 +51,7 @@ same-length-4 c = search needs
 
 returns-2 : tie.Need-returns-2
 returns-2 c = let a = c .before .before .before .before .before .before .before .before .before .before .before .before .before .before .before .args in
-    let old = nodesIn (a .links2 .now) (a .clauses2 .now) in
+    let old = nodesIn (a .pressed-links .now) (a .pressed-clauses .now) in
     λ m e. c .before .before .before .before .put-step .ensures ∙ ap (λ (y : Node). set old (a .k .0) y) (lays-step _ (a .numbers .now) m _ _ e (c .before .before .before .before .before .before .before .before .before .before .found2 .given .1) (c .before .before .before .before .before .before .before .before .number-of .ensures) (c .before .before .before .before .before .before .before .number-of2 .ensures))
 
 returns-3 : tie.Need-returns-3

@@ -5,8 +5,8 @@ use borrow.Author.Needs.{needs}
 use Rattle.press_lay.proofs.number_of.Statement.{statement}
 use Rattle.press_lay.proofs.number_of.Tie as tie
 
-wide-requires : tie.Need-wide-requires
-wide-requires c κs = search needs
+index-requires : tie.Need-index-requires
+index-requires c κs = search needs
 
 mul-t4 : tie.Need-mul-t4
 mul-t4 c = search needs
@@ -15,10 +15,10 @@ shared-slice-read-t6 : tie.Need-shared-slice-read-t6
 shared-slice-read-t6 c = search needs
 
 sub-t7 : tie.Need-sub-t7
-sub-t7 c = rw (c .before .wide .ensures) (c .before .before .before .pre .1)
+sub-t7 c = rw (c .before .index .ensures) (c .before .before .before .pre .1)
 
 returns : tie.Need-returns
-returns c = ap (λ (i : ℕ). getD (c .before .before .before .args .numbers .now) i 0 - 1) (c .before .wide .ensures)
+returns c = ap (λ (i : ℕ). getD (c .before .before .before .args .numbers .now) i 0 - 1) (c .before .index .ensures)
 
 pub number-of-spec : {M : Type 1} → statement M
-number-of-spec = tie.close (tie.spec wide-requires mul-t4 shared-slice-read-t6 sub-t7 returns)
+number-of-spec = tie.close (tie.spec index-requires mul-t4 shared-slice-read-t6 sub-t7 returns)

@@ -25,15 +25,13 @@ clear-marks-requires c κs = search needs
 loop-holds : tie.Need-loop-holds Inv-loop μ-loop
 loop-holds c = (omega arith, refl, refl)
 
-wide-requires : tie.Need-wide-requires Inv-loop μ-loop
-wide-requires c κs = search needs
+cast-t10 : tie.Need-cast-t10 Inv-loop μ-loop
+cast-t10 c = search needs
 
 mark-turn-requires : tie.Need-mark-turn-requires Inv-loop μ-loop
-mark-turn-requires c κs = let l = c .before .before .before in
-    let cl = l .before .before .before in
-    let st = cl .before .before .before .before in
+mark-turn-requires c κs = let st = c .before .before .before .before .before .before .before .before .before in
     let a = st .args in
-    (st .pre .0, (omega (arith, c .before .if1 .taken, c .before .before .wide .ensures), subst (λ (m : ℕ). LinesBelow m (linksIn (a .links .now))) (sym (l .loop .inv .1 ∙ cl .clear-marks .kept .0)) (st .pre .1)))
+    (st .pre .0, (omega arith, subst (λ (m : ℕ). LinesBelow m (linksIn (a .links .now))) (sym (c .before .before .loop .inv .1 ∙ c .before .before .before .before .before .clear-marks .kept .0)) (st .pre .1)))
 
 add-k : tie.Need-add-k Inv-loop μ-loop
 add-k c = search needs
@@ -42,27 +40,20 @@ loop-less : tie.Need-loop-less Inv-loop μ-loop
 loop-less c = search needs
 
 loop-again : tie.Need-loop-again Inv-loop μ-loop
-loop-again c = let t = c .before .before in
-    let l = t .before .before .before .before in
-    let cl = l .before .before .before in
-    let st = cl .before .before .before .before in
-    let a = st .args in
-    let s = linksIn (a .links .now) in
-    let h : l .loop .k < length s = rw (links-length (a .links .now)) (omega (arith, t .before .before .if1 .taken, t .before .before .before .wide .ensures)) in
-    (omega (arith, t .before .before .if1 .taken, t .before .before .before .wide .ensures), t .mark-turn .kept .1 .1 .0 ∙ l .loop .inv .1, ap (markLines (after (l .loop .k + 1) s)) (t .mark-turn .ensures) ∙ mark-on s (l .loop .k) (l .loop .core) h ∙ l .loop .inv .2)
+loop-again c = let l = c .before .before .before .before .before .loop in
+    let s = linksIn (c .before .before .before .before .before .before .before .before .before .before .before .before .args .links .now) in
+    let h : l .k < length s = rw (links-length (c .before .before .before .before .before .before .before .before .before .before .before .before .args .links .now)) (omega arith) in
+    (omega arith, c .before .before .mark-turn .kept .1 .1 .0 ∙ l .inv .1, ap (markLines (after (l .k + 1) s)) (c .before .before .mark-turn .ensures) ∙ mark-on s (l .k) (l .core) h ∙ l .inv .2)
 
 same-length : tie.Need-same-length Inv-loop μ-loop
 same-length c = search needs
 
 returns : tie.Need-returns Inv-loop μ-loop
-returns c = let l = c .before .before in
-    let cl = l .before .before .before in
-    let st = cl .before .before .before .before in
-    let a = st .args in
-    let s = linksIn (a .links .now) in
-    mark-done s (l .loop .k) (l .loop .core) (rw (links-length (a .links .now)) (omega (arith, c .if1 .left, c .before .wide .ensures)))
-    ∙ l .loop .inv .2
-    ∙ ap (markLines s) (cl .clear-marks .ensures)
+returns c = let l = c .before .loop in
+    let s = linksIn (c .before .before .before .before .before .before .before .before .args .links .now) in
+    mark-done s (l .k) (l .core) (rw (links-length (c .before .before .before .before .before .before .before .before .args .links .now)) (omega arith))
+    ∙ l .inv .2
+    ∙ ap (markLines s) (c .before .before .before .before .clear-marks .ensures)
 
 pub mark-core-spec : {M : Type 1} → statement M
 mark-core-spec =
@@ -72,7 +63,7 @@ mark-core-spec =
     μ-loop
     clear-marks-requires
     loop-holds
-    wide-requires
+    cast-t10
     mark-turn-requires
     add-k
     loop-less

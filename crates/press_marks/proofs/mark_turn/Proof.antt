@@ -22,28 +22,24 @@ enum-told c = search needs
 returns : tie.Need-returns
 returns c = join-unmarked _ _ _ _ _ _ (found-join _ _ _ _ _ (c .before .before .link-at .ensures) (c .enum-told .given .1))
 
-wide-requires : tie.Need-wide-requires
-wide-requires c κs = search needs
+index-requires : tie.Need-index-requires
+index-requires c κs = search needs
 
 slice-write-core : tie.Need-slice-write-core
-slice-write-core c = let f = c .before .before in
-    let n = f .before .before in
-    let st = n .before .before .before in
+slice-write-core c = let st = c .before .before .before .before .before .before .before in
     let a = st .args in
     let s = linksIn (a .links .now) in
     let h : a .k .0 < length s = rw (links-length (a .links .now)) (st .pre .1 .0) in
-    omega (arith, c .wide .ensures, line-within s (a .k .0) _ (found-leaf _ _ _ (n .link-at .ensures) (f .found .given .1)) (length (a .core .now)) h (st .pre .1 .1))
+    omega (arith, c .index .ensures, line-within s (a .k .0) _ (found-leaf _ _ _ (c .before .before .before .before .link-at .ensures) (c .before .before .found .given .1)) (length (a .core .now)) h (st .pre .1 .1))
 
 same-length : tie.Need-same-length
 same-length c = search needs
 
 returns-2 : tie.Need-returns-2
-returns-2 c = let f = c .before .before in
-    let n = f .before .before in
-    let a = n .before .before .before .args in
+returns-2 c = let a = c .before .before .before .before .before .before .before .args in
     let s = linksIn (a .links .now) in
-    ap (λ (i : ℕ). set (a .core .now) i 1) (c .wide .ensures)
-    ∙ line-marked s (a .k .0) _ (found-leaf _ _ _ (n .link-at .ensures) (f .found .given .1)) (a .core .now)
+    ap (λ (i : ℕ). set (a .core .now) i 1) (c .index .ensures)
+    ∙ line-marked s (a .k .0) _ (found-leaf _ _ _ (c .before .before .before .before .link-at .ensures) (c .before .before .found .given .1)) (a .core .now)
 
 pub mark-turn-spec : {M : Type 1} → statement M
 mark-turn-spec =
@@ -53,7 +49,7 @@ mark-turn-spec =
     enum-known-found
     enum-told
     returns
-    wide-requires
+    index-requires
     slice-write-core
     same-length
     returns-2)

@@ -1,19 +1,10 @@
-use Rattle.press_order.proofs.Placing.{order-put, numbered-put}
+use Rattle.press_order.proofs.Placing.{stands-more}
 use borrow.Author.Needs.{needs}
 use Rattle.press_order.proofs.put_next.Statement.{statement}
 use Rattle.press_order.proofs.put_next.Tie as tie
 
-wide-requires : tie.Need-wide-requires
-wide-requires c κs = search needs
-
-wide-requires-2 : tie.Need-wide-requires-2
-wide-requires-2 c κs = search needs
-
-mul-order : tie.Need-mul-order
-mul-order c = search needs
-
-slice-write-order : tie.Need-slice-write-order
-slice-write-order c = search needs
+index-requires : tie.Need-index-requires
+index-requires c κs = search needs
 
 add-numbers : tie.Need-add-numbers
 add-numbers c = search needs
@@ -30,24 +21,17 @@ add-result c = search needs
 same-length : tie.Need-same-length
 same-length c = search needs
 
-same-length-2 : tie.Need-same-length-2
-same-length-2 c = search needs
-
 returns : tie.Need-returns
-returns c = (search order-put, search numbered-put)
+returns c = λ order f. stands-more (c .index .ensures) (c .before .before .pre .0) f
 
 pub put-next-spec : {M : Type 1} → statement M
 put-next-spec =
     tie.close
     (tie.spec
-    wide-requires
-    wide-requires-2
-    mul-order
-    slice-write-order
+    index-requires
     add-numbers
     mul-numbers
     slice-write-numbers
     add-result
     same-length
-    same-length-2
     returns)

@@ -1,165 +1,330 @@
 use native.Mathlib.Omega.{arith}
-use mathlib.Core.Path.{_≡_, sym, ap, subst, _∙_}
-use mathlib.Core.List.{List}
+use mathlib.Core.Path.{_≡_, sym, ap, ap₂, subst, _∙_}
+use mathlib.Core.List.{List, _++_}
 use Prim.Native.Nat.{ℕ, _-_, _≤_, _<_}
-use lib.ListN.{length, getD, take}
+use lib.ListN.{length, getD, take, drop, replicate, List·getD-append}
 use lib.Seq.{length-take-le}
-use Rattle.sheet.specs.Editions.{narrow}
-use Rattle.sheet.specs.Records.{Node}
 use Rattle.base.specs.Bytes.{put}
+use Rattle.sheet.specs.Editions.{narrow, capacity}
 use Rattle.sheet.specs.Fields.{sheetBytes}
+use Rattle.sheet.specs.Records.{Node}
 use Rattle.press_spec.specs.Drops.{withDrops}
 use Rattle.press_spec.specs.Order.{orderFrom, laid}
 use Rattle.press_spec.specs.Press.{pressed, core, report}
+use Rattle.press_nodes.specs.Fates.{fatesIn}
 use Rattle.press_nodes.specs.Tables.{linksIn, clauseWords, nodesIn, Nodes}
+use Rattle.press_nodes.proofs.Lent.{lent-long}
 use Rattle.press_rebuild.proofs.Sounds.{rebuilt-nodes}
-use Rattle.press_marks.specs.Marking.{Emittable}
-use Rattle.press.proofs.Wholes.{front-fits, front-laid}
+use Rattle.press_order.specs.Placing.{Numbered, Orderly}
+use Rattle.press_order.proofs.Arranging.{front-long, front-again}
+use Rattle.press_order.proofs.Arranged.{arranged-order, arranged-fits, arranged-nodes}
+use Rattle.press_lay.specs.Laying.{Laying}
+use Rattle.press.specs.Emittable.{Emittable}
 use Rattle.press.proofs.Recycled.{from-below, from-pressed}
 use borrow.Author.Needs.{needs}
 use Rattle.press.proofs.passes.run_passes.Statement.{statement}
 use Rattle.press.proofs.passes.run_passes.Tie as tie
 
--- ---- what is known where the nodes are rebuilt, and where they are laid out
+-- ---- what is known after each pass: the table that it filled, lent again, and what stands in it
 
-module _ (r : tie.After-rebuild) where
-  abbrev start : tie.Start
-  start = r .before .before .before .before .before .before .before .before .before .before .before .before .before .before .before .before .before .before .before .before .before .before .before .before .before
-
+module _ (st : tie.Start) where
   abbrev links : List ℕ
-  links = start .args .links .now
+  links = st .args .links .now
 
   abbrev clauses : List ℕ
-  clauses = start .args .clauses .now
+  clauses = st .args .clauses .now
+
+  abbrev n : ℕ
+  n = length links
+
+  few : n ≤ capacity
+  few = st .pre .0 .0 .linked .few
+
+module _ (u : tie.After-uses-from) where
+  abbrev counting : tie.Start
+  counting = u .before .before .before .before .before .before .before
+
+  abbrev counts : List ℕ
+  counts = u .uses-from .last .1 .1 .0
+
+  counts-long : n counting ≤ length (counts ++ drop (n counting) (replicate capacity 0))
+  counts-long = front-long (replicate capacity 0) counts (n counting) (u .uses-from .kept .1 .1 .0) (few counting)
+
+  counts-again : take (n counting) (counts ++ drop (n counting) (replicate capacity 0)) ≡ counts
+  counts-again = front-again (replicate capacity 0) counts (n counting) (u .uses-from .kept .1 .1 .0) (few counting)
+
+module _ (r : tie.After-recycle) where
+  abbrev recycling : tie.Start
+  recycling = r .before .before .before .before .before .before .before .before .before .before .before .before
+
+  abbrev fates : List ℕ
+  fates = r .recycle .last .1 .1 .0
+
+  fates-long : n recycling ≤ length (fates ++ drop (n recycling) (replicate capacity 0))
+  fates-long = front-long (replicate capacity 0) fates (n recycling) (r .recycle .kept .1 .1 .0) (few recycling)
+
+  fates-again : take (n recycling) (fates ++ drop (n recycling) (replicate capacity 0)) ≡ fates
+  fates-again = front-again (replicate capacity 0) fates (n recycling) (r .recycle .kept .1 .1 .0) (few recycling)
+
+module _ (b : tie.After-rebuild) where
+  abbrev building : tie.Start
+  building = b .before .before .before .before .before .before .before .before .before .before .before .before .before .before .before .before .before .before
 
   abbrev links′ : List ℕ
-  links′ = r .rebuild .last .0
+  links′ = b .rebuild .last .0
 
   abbrev clauses′ : List ℕ
-  clauses′ = r .rebuild .last .1 .0
+  clauses′ = b .rebuild .last .1 .0
 
+  abbrev standIns : List ℕ
+  standIns = b .rebuild .last .1 .1 .1 .0
+
+  long : length links′ ≡ n building
+  long = b .rebuild .kept .0
+
+  -- as it is read from the array
   abbrev from : ℕ
-  from = getD (r .rebuild .last .1 .1 .1 .0) (length links - 1) 0
+  from = getD (standIns ++ drop (n building) (replicate capacity 0)) (n building - 1) 0
 
-  long : length links′ ≡ length links
-  long = r .rebuild .kept .0
+  stand-ins-long : length standIns ≡ n building
+  stand-ins-long = b .rebuild .kept .1 .1 .1 .0 ∙ lent-long capacity (n building) (few building)
+
+  read : from ≡ getD standIns (n building - 1) 0
+  read = List·getD-append standIns _ 0 (n building - 1) (omega (arith, stand-ins-long, building .pre .0 .1))
 
   tables : Nodes links′ clauses′
-  tables = rebuilt-nodes _ links clauses links′ clauses′ _ (start .pre .0) long (r .rebuild .kept .1 .0) (r .rebuild .ensures)
+  tables = rebuilt-nodes _ (links building) (clauses building) links′ clauses′ _ (building .pre .0 .0) long (b .rebuild .kept .1 .0) (b .rebuild .ensures)
 
   below : from < length links′
-  below = from-below links clauses links′ clauses′ _ _ (start .pre .0) (r .rebuild .ensures) (start .pre .1 .1 .0 .2) long
+  below = from-below (links building) (clauses building) links′ clauses′ _ _ (building .pre .0 .0) (b .rebuild .ensures) from read (building .pre .0 .1) long
 
-  passed : laid (nodesIn links′ clauses′) (orderFrom (linksIn links′) from) ≡ pressed (nodesIn links clauses)
-  passed = from-pressed links clauses links′ clauses′ _ _ (start .pre .0) (r .rebuild .ensures) _ (r .before .before .before .before .before .before .before .before .before .before .before .before .before .uses-from .ensures) (r .before .before .before .before .before .before .before .recycle .ensures)
+  passed : laid (nodesIn links′ clauses′) (orderFrom (linksIn links′) from) ≡ pressed (nodesIn (links building) (clauses building))
+  passed =
+      from-pressed (links building) (clauses building) links′ clauses′ _ _ (building .pre .0 .0) (b .rebuild .ensures) from read _
+      (λ m. rw (counts-again (b .before .before .before .before .before .before .before .before .before .before .before)) (b .before .before .before .before .before .before .before .before .before .before .before .uses-from .ensures m))
+      (ap fatesIn (fates-again (b .before .before .before .before .before .before)) ∙ b .before .before .before .before .before .before .recycle .ensures)
 
-module _ (w : tie.After-wide) where
+module _ (o : tie.After-order-from) where
   abbrev built : tie.After-rebuild
-  built = w .before .before .before .before .before .before .before .before .before .before .before .before .before .before .before .before .before
+  built = o .before .before .before .before .before .before .before .before
 
-  abbrev links2 : List ℕ
-  links2 = w .before .before .before .before .before .arrange .last .1 .1 .1 .0
+  abbrev ordering : tie.Start
+  ordering = building built
 
-  abbrev clauses2 : List ℕ
-  clauses2 = w .before .before .before .before .before .arrange .last .1 .1 .1 .1 .0
+  abbrev order : List ℕ
+  order = orderFrom (linksIn (links′ built)) (from built)
 
-  abbrev end : ℕ
-  end = w .wide .result
+  abbrev numbers : List ℕ
+  numbers = o .order-from .last .1 .1 .0
 
-  long2 : length links2 ≡ length (links′ built)
-  long2 = w .before .before .before .before .before .arrange .kept .1 .1 .1 .0 ∙ start built .pre .1 .1 .0 .0 ∙ sym (long built)
+  abbrev count : ℕ
+  count = o .order-from .result
 
-  wide2 : length clauses2 ≡ clauseWords (length (links′ built))
-  wide2 = w .before .before .before .before .before .arrange .kept .1 .1 .1 .1 .0 ∙ start built .pre .1 .1 .0 .1 ∙ ap clauseWords (sym (long built))
+  numbers-long : n ordering ≤ length (numbers ++ drop (n ordering) (replicate capacity 0))
+  numbers-long = front-long (replicate capacity 0) numbers (n ordering) (o .order-from .kept .1 .1 .0) (few ordering)
 
-  fits : end ≤ length (links′ built)
-  fits = front-fits (tables built) (below built) (w .before .before .before .before .before .arrange .ensures .1 .0) (w .wide .ensures)
+  numbers-again : take (n ordering) (numbers ++ drop (n ordering) (replicate capacity 0)) ≡ numbers
+  numbers-again = front-again (replicate capacity 0) numbers (n ordering) (o .order-from .kept .1 .1 .0) (few ordering)
 
-  laid-out : (words : ℕ) → words ≡ clauseWords end → Nodes (take end links2) (take words clauses2) × (nodesIn (take end links2) (take words clauses2) ≡ pressed (nodesIn (links built) (clauses built)))
-  laid-out words e =
-      let part = front-laid (tables built) (below built) (w .before .before .before .before .before .arrange .ensures .1 .0) (w .wide .ensures) links2 clauses2 e long2 wide2 (w .before .before .before .before .before .arrange .ensures .0) in
-      (part .0, part .1 ∙ passed built)
+  count-is : count ≡ length order
+  count-is = o .order-from .ensures .counts
 
-sub-last : tie.Need-sub-last
-sub-last c = search needs
+  count-fits : count ≤ capacity
+  count-fits = omega (arith, count-is, arranged-fits (tables built) (from built) (below built), tables built .linked .few)
 
-cast-t20 : tie.Need-cast-t20
-cast-t20 c = search needs
+  orderly : Orderly (links′ built) order
+  orderly = arranged-order (tables built) (from built) (below built)
+
+  numbered : Numbered (take (n ordering) (numbers ++ drop (n ordering) (replicate capacity 0))) order
+  numbered = rw numbers-again (o .order-from .ensures .numbered)
+
+  room : length (take count (replicate {A = ℕ} capacity 0)) ≡ count
+  room = lent-long capacity count count-fits
+
+module _ (w : tie.After-words-for) where
+  abbrev ordered : tie.After-order-from
+  ordered = w .before .before
+
+  words-fit : w .words-for .result ≤ clauseWords capacity
+  words-fit = omega (arith, w .words-for .ensures, count-fits ordered)
+
+  words-room : length (take (w .words-for .result) (replicate {A = ℕ} (clauseWords capacity) 0)) ≡ w .words-for .result
+  words-room = lent-long (clauseWords capacity) (w .words-for .result) words-fit
+
+module _ (y : tie.After-lay) where
+  abbrev sized : tie.After-words-for
+  sized = y .before .before .before .before .before .before
+
+  abbrev placed : tie.After-order-from
+  placed = ordered sized
+
+  abbrev words : ℕ
+  words = sized .words-for .result
+
+  abbrev pressedLinks : List ℕ
+  pressedLinks = y .lay .last .1 .1 .1 .0
+
+  abbrev pressedClauses : List ℕ
+  pressedClauses = y .lay .last .1 .1 .1 .1 .0
+
+  links-long : count placed ≤ length (pressedLinks ++ drop (count placed) (replicate capacity 0))
+  links-long = front-long (replicate capacity 0) pressedLinks (count placed) (y .lay .kept .1 .1 .1 .0) (count-fits placed)
+
+  links-again : take (count placed) (pressedLinks ++ drop (count placed) (replicate capacity 0)) ≡ pressedLinks
+  links-again = front-again (replicate capacity 0) pressedLinks (count placed) (y .lay .kept .1 .1 .1 .0) (count-fits placed)
+
+  clauses-long : words ≤ length (pressedClauses ++ drop words (replicate (clauseWords capacity) 0))
+  clauses-long = front-long (replicate (clauseWords capacity) 0) pressedClauses words (y .lay .kept .1 .1 .1 .1 .0) (words-fit sized)
+
+  clauses-again : take words (pressedClauses ++ drop words (replicate (clauseWords capacity) 0)) ≡ pressedClauses
+  clauses-again = front-again (replicate (clauseWords capacity) 0) pressedClauses words (y .lay .kept .1 .1 .1 .1 .0) (words-fit sized)
+
+  laid-out : nodesIn pressedLinks pressedClauses ≡ laid (nodesIn (links′ (built placed)) (clauses′ (built placed))) (order placed)
+  laid-out = y .lay .ensures (order placed) (orderly placed) (numbered placed) (sym (room placed ∙ count-is placed))
+
+  sizes : length pressedClauses ≡ clauseWords (length pressedLinks)
+  sizes =
+      y .lay .kept .1 .1 .1 .1 .0 ∙ words-room sized ∙ sized .words-for .ensures
+      ∙ ap clauseWords (sym (y .lay .kept .1 .1 .1 .0 ∙ room placed))
+
+  pressed-tables : Nodes pressedLinks pressedClauses
+  pressed-tables = arranged-nodes (tables (built placed)) (from (built placed)) (below (built placed)) pressedLinks pressedClauses laid-out sizes
+
+  lent : nodesIn (take (count placed) (pressedLinks ++ drop (count placed) (replicate capacity 0))) (take words (pressedClauses ++ drop words (replicate (clauseWords capacity) 0)))
+      ≡ pressed (nodesIn (links (ordering placed)) (clauses (ordering placed)))
+  lent = ap₂ nodesIn links-again clauses-again ∙ laid-out ∙ passed (built placed)
+
+sub-count : tie.Need-sub-count
+sub-count c = search needs
+
+cast-count : tie.Need-cast-count
+cast-count c = search needs
+
+array-borrow-prefix-counts : tie.Need-array-borrow-prefix-counts
+array-borrow-prefix-counts c = search needs
+
+slice-aggregate-uses-from : tie.Need-slice-aggregate-uses-from
+slice-aggregate-uses-from c = sym (lent-long capacity _ (few (c .before .before .before .before .before .before)))
 
 uses-from-requires : tie.Need-uses-from-requires
-uses-from-requires c κs = search needs
+uses-from-requires c κs = (c .before .before .before .before .before .before .pre .0 .0 .linked, (lent-long capacity _ (few (c .before .before .before .before .before .before)), omega (arith, c .before .before .before .before .before .before .pre .0 .1)))
+
+array-share-prefix-counts : tie.Need-array-share-prefix-counts
+array-share-prefix-counts c = counts-long (c .before .before)
+
+slice-aggregate-recycle : tie.Need-slice-aggregate-recycle
+slice-aggregate-recycle c = sym (length-take-le _ _ (counts-long (c .before .before .before)))
+
+array-borrow-prefix-fates : tie.Need-array-borrow-prefix-fates
+array-borrow-prefix-fates c = search needs
+
+slice-aggregate-recycle-2 : tie.Need-slice-aggregate-recycle-2
+slice-aggregate-recycle-2 c = sym (lent-long capacity _ (few (c .before .before .before .before .before .before .before .before .before .before .before)))
 
 recycle-requires : tie.Need-recycle-requires
-recycle-requires c κs = search needs
+recycle-requires c κs = (c .before .before .before .before .before .before .before .before .before .before .before .pre .0 .0 .linked, (length-take-le _ _ (counts-long (c .before .before .before .before)), lent-long capacity _ (few (c .before .before .before .before .before .before .before .before .before .before .before)), c .before .before .before .before .before .before .before .before .before .before .before .pre .0 .1))
+
+array-share-prefix-fates : tie.Need-array-share-prefix-fates
+array-share-prefix-fates c = fates-long (c .before .before .before)
+
+slice-aggregate-rebuild : tie.Need-slice-aggregate-rebuild
+slice-aggregate-rebuild c = sym (length-take-le _ _ (fates-long (c .before .before .before .before)))
+
+array-borrow-prefix-stand-ins : tie.Need-array-borrow-prefix-stand-ins
+array-borrow-prefix-stand-ins c = search needs
+
+slice-aggregate-rebuild-2 : tie.Need-slice-aggregate-rebuild-2
+slice-aggregate-rebuild-2 c = sym (lent-long capacity _ (few (c .before .before .before .before .before .before .before .before .before .before .before .before .before .before .before .before .before)))
 
 rebuild-requires : tie.Need-rebuild-requires
-rebuild-requires c κs = let st = c .before .before .before .before .before .before .before .before .before .before .before .before .before .before .before .before .before .before .before .before .before .before .before .before in (st .pre .0, (omega (arith, st .pre .1 .0 .1), omega (arith, st .pre .1 .0 .2)))
+rebuild-requires c κs = (c .before .before .before .before .before .before .before .before .before .before .before .before .before .before .before .before .before .pre .0 .0, (length-take-le _ _ (fates-long (c .before .before .before .before .before)), lent-long capacity _ (few (c .before .before .before .before .before .before .before .before .before .before .before .before .before .before .before .before .before))))
 
-mul-t16 : tie.Need-mul-t16
-mul-t16 c = search needs
+sub-count-2 : tie.Need-sub-count-2
+sub-count-2 c = search needs
 
-slice-read-t20 : tie.Need-slice-read-t20
-slice-read-t20 c = let st = c .before .before .before .before .before .before .before .before .before .before .before .before .before .before .before .before .before .before .before .before .before .before .before .before .before .before .before .before .before .before .before .before in omega (arith, c .before .before .before .before .before .before .before .rebuild .kept .1 .1 .1 .0, st .pre .1 .0 .2, st .pre .1 .1 .0 .2)
+mul-count : tie.Need-mul-count
+mul-count c = search needs
 
-arrange-requires : tie.Need-arrange-requires
-arrange-requires c κs = let r = c .before .before .before .before .before .before .before .before .before .before .before in
-    let q = start r .pre .1 .1 .0 in
-    (tables r, (q .0 ∙ sym (long r), q .1 ∙ ap clauseWords (sym (long r)), below r))
+array-read-count : tie.Need-array-read-count
+array-read-count c = search needs
 
-wide-requires : tie.Need-wide-requires
-wide-requires c κs = search needs
+array-borrow-prefix-numbers : tie.Need-array-borrow-prefix-numbers
+array-borrow-prefix-numbers c = search needs
+
+slice-aggregate-order-from : tie.Need-slice-aggregate-order-from
+slice-aggregate-order-from c = sym (lent-long capacity _ (few (c .before .before .before .before .before .before .before .before .before .before .before .before .before .before .before .before .before .before .before .before .before .before .before .before .before)))
+
+order-from-requires : tie.Need-order-from-requires
+order-from-requires c κs = let b = c .before .before .before .before .before .before .before in
+    (tables b .linked, (lent-long capacity _ (few (c .before .before .before .before .before .before .before .before .before .before .before .before .before .before .before .before .before .before .before .before .before .before .before .before .before)) ∙ sym (long b), below b))
+
+cast-count-2 : tie.Need-cast-count-2
+cast-count-2 c = search needs
 
 words-for-requires : tie.Need-words-for-requires
-words-for-requires c κs = omega (arith, fits (c), tables (c .before .before .before .before .before .before .before .before .before .before .before .before .before .before .before .before .before) .linked .few)
+words-for-requires c κs = count-fits (c .before)
 
-slice-reshare-prefix-emit : tie.Need-slice-reshare-prefix-emit
-slice-reshare-prefix-emit c = omega (arith, fits (c .before), long2 (c .before))
+array-share-prefix-numbers : tie.Need-array-share-prefix-numbers
+array-share-prefix-numbers c = numbers-long (c .before .before .before .before)
+
+slice-aggregate-lay : tie.Need-slice-aggregate-lay
+slice-aggregate-lay c = sym (length-take-le _ _ (numbers-long (c .before .before .before .before .before)))
+
+array-borrow-prefix-pressed-links : tie.Need-array-borrow-prefix-pressed-links
+array-borrow-prefix-pressed-links c = count-fits (c .before .before .before .before .before)
+
+slice-aggregate-lay-2 : tie.Need-slice-aggregate-lay-2
+slice-aggregate-lay-2 c = sym (room (c .before .before .before .before .before .before))
+
+array-borrow-prefix-pressed-clauses : tie.Need-array-borrow-prefix-pressed-clauses
+array-borrow-prefix-pressed-clauses c = words-fit (c .before .before .before .before)
+
+slice-aggregate-lay-3 : tie.Need-slice-aggregate-lay-3
+slice-aggregate-lay-3 c = sym (words-room (c .before .before .before .before .before))
+
+lay-requires : tie.Need-lay-requires
+lay-requires c κs = let w = c .before .before .before .before .before in
+    let o = ordered w in (
+      tables (built o),
+      (
+        record { order = order o; orderly = orderly o; numbered = numbered o; fills = sym (room o ∙ count-is o) },
+        (length-take-le _ _ (numbers-long o) ∙ sym (long (built o)), words-room w ∙ w .words-for .ensures ∙ ap clauseWords (sym (room o))),
+      ),
+    )
+
+array-share-prefix-pressed-links : tie.Need-array-share-prefix-pressed-links
+array-share-prefix-pressed-links c = links-long (c .before .before)
 
 slice-aggregate-emit : tie.Need-slice-aggregate-emit
-slice-aggregate-emit c = sym (length-take-le _ _ (omega (arith, fits (c .before .before), long2 (c .before .before))))
+slice-aggregate-emit c = sym (length-take-le _ _ (links-long (c .before .before .before)))
 
-slice-reshare-prefix-emit-2 : tie.Need-slice-reshare-prefix-emit-2
-slice-reshare-prefix-emit-2 c = omega (arith, fits (c .before .before), wide2 (c .before .before), c .before .words-for .ensures)
+array-share-prefix-pressed-clauses : tie.Need-array-share-prefix-pressed-clauses
+array-share-prefix-pressed-clauses c = clauses-long (c .before .before .before)
 
 slice-aggregate-emit-2 : tie.Need-slice-aggregate-emit-2
-slice-aggregate-emit-2 c = sym (length-take-le _ _ (omega (arith, fits (c .before .before .before), wide2 (c .before .before .before), c .before .before .words-for .ensures)))
+slice-aggregate-emit-2 c = sym (length-take-le _ _ (clauses-long (c .before .before .before .before)))
 
 emit-requires : tie.Need-emit-requires
-emit-requires c κs = let st = c .before .before .before .before .before .before .before .before .before .before .before .before .before .before .before .before .before .before .before .before .before .before .before .before .before .before .before .before .before .before .before .before .before .before .before .before .before .before .before .before .before .before .before .before .before .before .before in
-    let part = laid-out (c .before .before .before .before .before) _ (c .before .before .before .before .words-for .ensures) in
-    (part .0, subst (λ (s : List Node). Emittable (st .args .lines) s (st .args .out .now) (st .args .marks .now)) (sym (part .1)) (st .pre .1 .1 .1))
+emit-requires c κs = let y = c .before .before .before .before .before .before in
+    let a = c .before .before .before .before .before .before .before .before .before .before .before .before .before .before .before .before .before .before .before .before .before .before .before .before .before .before .before .before .before .before .before .before .before .before .before .before .before .before .before .before .args in
+    (rw (links-again y, clauses-again y) (pressed-tables y), subst (λ (s : List Node). Emittable (a .lines) s (a .out .now) (a .marks .now)) (sym (lent y)) (c .before .before .before .before .before .before .before .before .before .before .before .before .before .before .before .before .before .before .before .before .before .before .before .before .before .before .before .before .before .before .before .before .before .before .before .before .before .before .before .before .pre .1))
 
 same-length : tie.Need-same-length
 same-length c = c .before .before .before .before .before .before .before .before .before .before .before .before .before .before .before .before .before .before .before .before .before .before .before .before .before .before .before .rebuild .kept .0
 
 same-length-2 : tie.Need-same-length-2
-same-length-2 c = search needs
+same-length-2 c = c .before .before .before .before .before .before .before .before .before .before .before .before .before .before .before .before .before .before .before .before .before .before .before .before .before .before .before .rebuild .kept .1 .0
 
 same-length-3 : tie.Need-same-length-3
-same-length-3 c = c .before .before .before .before .before .before .before .before .before .before .before .before .before .before .before .before .before .before .before .before .before .before .before .before .before .before .before .before .before .before .before .before .before .before .before .before .before .before .before .before .uses-from .kept .1 .1 .0
+same-length-3 c = search needs
 
 same-length-4 : tie.Need-same-length-4
-same-length-4 c = c .before .before .before .before .before .before .before .before .before .before .before .before .before .before .before .before .before .before .before .before .before .before .before .before .before .before .before .before .before .before .before .before .before .before .recycle .kept .1 .1 .0
-
-same-length-5 : tie.Need-same-length-5
-same-length-5 c = search needs
-
-same-length-6 : tie.Need-same-length-6
-same-length-6 c = search needs
-
-same-length-7 : tie.Need-same-length-7
-same-length-7 c = search needs
-
-same-length-8 : tie.Need-same-length-8
-same-length-8 c = search needs
-
-same-length-9 : tie.Need-same-length-9
-same-length-9 c = search needs
+same-length-4 c = search needs
 
 returns : tie.Need-returns
-returns c = let a = c .before .before .before .before .before .before .before .before .before .before .before .before .before .before .before .before .before .before .before .before .before .before .before .before .before .before .before .before .before .before .before .before .before .before .before .before .before .before .before .before .before .before .before .before .before .before .before .before .before .before .before .before .args in
+returns c = let a = c .before .before .before .before .before .before .before .before .before .before .before .before .before .before .before .before .before .before .before .before .before .before .before .before .before .before .before .before .before .before .before .before .before .before .before .before .before .before .before .before .before .before .before .before .before .args in
     let e = c .before .before .before .before .emit .ensures in
-    let same = laid-out (c .before .before .before .before .before .before .before .before .before .before) _ (c .before .before .before .before .before .before .before .before .before .words-for .ensures) .1 in (
+    let same = lent (c .before .before .before .before .before .before .before .before .before .before .before) in (
       e .0 ∙ ap (report (a .lines)) same,
       (
         e .1 .0 ∙ ap (λ (s : List Node). put (a .out .now) 0 (sheetBytes narrow (withDrops s))) same,
@@ -171,28 +336,43 @@ pub run-passes-spec : {M : Type 1} → statement M
 run-passes-spec =
     tie.close
     (tie.spec
-    sub-last
-    cast-t20
+    sub-count
+    cast-count
+    array-borrow-prefix-counts
+    slice-aggregate-uses-from
     uses-from-requires
+    array-share-prefix-counts
+    slice-aggregate-recycle
+    array-borrow-prefix-fates
+    slice-aggregate-recycle-2
     recycle-requires
+    array-share-prefix-fates
+    slice-aggregate-rebuild
+    array-borrow-prefix-stand-ins
+    slice-aggregate-rebuild-2
     rebuild-requires
-    mul-t16
-    slice-read-t20
-    arrange-requires
-    wide-requires
+    sub-count-2
+    mul-count
+    array-read-count
+    array-borrow-prefix-numbers
+    slice-aggregate-order-from
+    order-from-requires
+    cast-count-2
     words-for-requires
-    slice-reshare-prefix-emit
+    array-share-prefix-numbers
+    slice-aggregate-lay
+    array-borrow-prefix-pressed-links
+    slice-aggregate-lay-2
+    array-borrow-prefix-pressed-clauses
+    slice-aggregate-lay-3
+    lay-requires
+    array-share-prefix-pressed-links
     slice-aggregate-emit
-    slice-reshare-prefix-emit-2
+    array-share-prefix-pressed-clauses
     slice-aggregate-emit-2
     emit-requires
     same-length
     same-length-2
     same-length-3
     same-length-4
-    same-length-5
-    same-length-6
-    same-length-7
-    same-length-8
-    same-length-9
     returns)

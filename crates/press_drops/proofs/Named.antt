@@ -1,24 +1,17 @@
--- What counting a record, and the places that name a node, come to.
+-- Whether a node names another, and whether one from m on does.
 use mathlib.Core.Path.{_≡_, refl, sym, ap, _∙_}
 use mathlib.Core.Bool.{Bool, true, false, not, cond, true≢false}
-use mathlib.Core.List.{List, _∷_}
-use Prim.Native.Nat.{ℕ, zero, suc, _+_, _-_, _*_, _<_, _≤_, max}
+use mathlib.Core.List.{List}
+use Prim.Native.Nat.{ℕ, zero, suc, _+_, _<_, _≤_}
 use native.Mathlib.Omega.{arith}
 use borrow.Author.Tests.{eq-eqb, ne-eqb}
 use lib.Dec.{eqb}
 use lib.ListN.{length, drop-of-length-le}
 use lib.ListN.{drop as after}
-use Rattle.base.specs.Bytes.{put}
-use Rattle.base.proofs.Lists.{drop-more}
-use Rattle.clause.specs.Clauses.{none}
-use Rattle.sheet.specs.Editions.{narrow}
-use Rattle.sheet.specs.Fields.{recordBytesOf}
-use Rattle.sheet.specs.Counts.{stepOf}
-use Rattle.sheet.specs.Records.{Node, given, Record, node, drop, nodeAt}
 use Rattle.press_spec.specs.Links.{Link, leaf, join, linkAt}
 use Rattle.press_spec.specs.Trim.{naming, usesIn, uses}
+use Rattle.press_spec.proofs.Nodes.{links-from}
 use Rattle.press_spec.proofs.Playing.{usedIn}
-use Rattle.press_emit.specs.Emission.{emission, emitRecord}
 
 -- ---- whether a node names n
 
@@ -46,19 +39,11 @@ module _ (n p l r : ℕ) (x : Link) (e : x ≡ join p l r) where
 
 -- ---- whether a node from m on does
 
-pub from-cons : (s : List Node) (m : ℕ) → m < length s → after m s ≡ nodeAt s m ∷ after (m + 1) s
-unfolding nodeAt
-from-cons s m h = drop-more s m (given 0 none) h
-
 module _ (s : List Link) (m : ℕ) where
-  pub links-cons : m < length s → after m s ≡ linkAt s m ∷ after (m + 1) s
-  unfolding linkAt
-  links-cons h = drop-more s m (leaf 0) h
-
   module _ (n : ℕ) (h : m < length s) where
     pub named-here : true ≡ Names n (linkAt s m) → true ≡ usedIn (after m s) n
     unfolding uses usedIn
-    named-here e = by (usesIn n (linkAt s m)) e ∙ sym (ap (λ (l : List Link). usedIn l n) (links-cons h))
+    named-here e = by (usesIn n (linkAt s m)) e ∙ sym (ap (λ (l : List Link). usedIn l n) (links-from s m h))
       where
         by : (k : ℕ) → true ≡ not (eqb k 0) → true ≡ not (eqb (k + uses (after (m + 1) s) n) 0)
         by zero q = absurd (true≢false q)
@@ -66,7 +51,7 @@ module _ (s : List Link) (m : ℕ) where
 
     pub named-later : false ≡ Names n (linkAt s m) → usedIn (after m s) n ≡ usedIn (after (m + 1) s) n
     unfolding uses usedIn
-    named-later e = ap (λ (l : List Link). usedIn l n) (links-cons h) ∙ by (usesIn n (linkAt s m)) e
+    named-later e = ap (λ (l : List Link). usedIn l n) (links-from s m h) ∙ by (usesIn n (linkAt s m)) e
       where
         by : (k : ℕ) → false ≡ not (eqb k 0) → not (eqb (k + uses (after (m + 1) s) n) 0) ≡ not (eqb (uses (after (m + 1) s) n) 0)
         by zero q = let z : 0 + uses (after (m + 1) s) n ≡ uses (after (m + 1) s) n = omega arith in ap (λ (k : ℕ). not (eqb k 0)) z
@@ -75,19 +60,3 @@ module _ (s : List Link) (m : ℕ) where
   pub named-none : (n : ℕ) → length s ≤ m → false ≡ usedIn (after m s) n
   unfolding uses usedIn
   named-none n h = rw (drop-of-length-le s h)
-
--- ---- what is counted after a record
-
-module _ (out : List ℕ) (records held peak steps : ℕ) (q : Record) where
-  abbrev wrote : List ℕ
-  wrote = put out (24 * records) (recordBytesOf narrow q)
-
-  pub node-counted : (x : Node) (peak′ steps′ : ℕ) → q ≡ node x → peak′ ≡ max peak (held + 1) → steps′ ≡ steps + stepOf x
-      → emission wrote (records + 1) (held + 1) peak′ steps′ ≡ emitRecord q (emission out records held peak steps)
-  unfolding emitRecord
-  node-counted x peak′ steps′ e p s = rw (e, p, s)
-
-  pub drop-counted : (n held′ : ℕ) → q ≡ drop n → held′ ≡ held - 1
-      → emission wrote (records + 1) held′ peak steps ≡ emitRecord q (emission out records held peak steps)
-  unfolding emitRecord
-  drop-counted n held′ e h = rw (e, h)
