@@ -22,9 +22,9 @@ pressWords (accepted r) =
 
 unfoldable pub replayCode : R.Answer → ℕ
 replayCode (R.refused why k) = why
-replayCode (R.accepted c nodes steps peak) = 0
+replayCode (R.accepted r) = 0
 
 -- record, positive, negative, nodes, steps, peak: likewise
 unfoldable pub replayWords : R.Answer → List ℕ
 replayWords (R.refused why k) = k ∷ 0 ∷ 0 ∷ 0 ∷ 0 ∷ 0 ∷ []
-replayWords (R.accepted c nodes steps peak) = 0 ∷ c .positive ∷ c .negative ∷ nodes ∷ steps ∷ peak ∷ []
+replayWords (R.accepted r) = 0 ∷ r .conclusion .positive ∷ r .conclusion .negative ∷ r .nodes ∷ r .steps ∷ r .peak ∷ []

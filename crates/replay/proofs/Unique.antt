@@ -1,7 +1,6 @@
 -- Nothing else satisfies the promises: what an answer, a tally and a row say is said by no other.
 use mathlib.Core.Path.{_≡_, refl, sym, ap, ap₂, _∙_}
 use mathlib.Core.List.{List, [], _∷_}
-use Rattle.clause.specs.Denote.{literalsOf}
 use Rattle.sheet.specs.Reasons.{numberOf}
 use Rattle.sheet.proofs.Reasons.{numberOf-injective}
 use Rattle.tally.specs.Said.{tallyOf}
@@ -14,20 +13,17 @@ use Rattle.replay_slots.specs.declared.StepAnswer.the-variants as S
 use Rattle.replay_slots.specs.Said.{slotOf, rowOf, saidOfStep}
 use Rattle.replay_answer.specs.declared.ReplayAnswer.{ReplayAnswer}
 use Rattle.replay_answer.specs.declared.ReplayAnswer.the-variants as A
-use Rattle.replay_answer.specs.Answers.{said}
+use Rattle.replay_answer.specs.Answers.{resultOf, said}
 
 pub said-injective : (r₁ r₂ : ReplayAnswer) → said r₁ ≡ said r₂ → r₁ ≡ r₂
 unfolding said
 said-injective (A.Accepted a) (A.Accepted b) e =
-    let c : literalsOf (a .conclusion) ≡ literalsOf (b .conclusion) = cc in
-    let n : a .nodes ≡ b .nodes = cc in
-    let s : a .steps ≡ b .steps = cc in
-    let p : a .peak ≡ b .peak = cc in
+    let r : resultOf a ≡ resultOf b = cc in
     λ i. A.Accepted (record {
-      conclusion = record { positive = record { 0 = c i .positive }; negative = record { 0 = c i .negative } };
-      nodes = n i;
-      steps = s i;
-      peak = p i;
+      conclusion = record { positive = record { 0 = r i .conclusion .positive }; negative = record { 0 = r i .conclusion .negative } };
+      nodes = r i .nodes;
+      steps = r i .steps;
+      peak = r i .peak;
     })
 said-injective (A.Accepted a) (A.Refused why k) e = cc
 said-injective (A.Refused why k) (A.Accepted b) e = cc

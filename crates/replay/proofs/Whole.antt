@@ -6,15 +6,15 @@ use Prim.Native.Nat.{ℕ, _/_}
 use lib.ListN.{length, replicate, length-replicate}
 use Rattle.sheet.specs.declared.Verdict.{Verdict}
 use Rattle.sheet.specs.declared.Verdict.the-variants.{Fine, Refused}
-use Rattle.sheet.specs.Editions.{narrow, replayRecords}
+use Rattle.sheet.specs.Editions.{narrow, recordBytes, replayRecords}
 use Rattle.sheet.specs.Checks.{checkLengths}
-use Rattle.tally.specs.Tally.{nothing}
-use Rattle.replay_spec.specs.Slots.{Slot as RowSlot, empty, cleared}
+use Rattle.tally.specs.Tally.{Tally, nothing}
+use Rattle.replay_spec.specs.Slots.{Slot as RowSlot, empty, Place, cleared}
 use Rattle.replay_spec.specs.Step.{state, passes}
 use Rattle.replay_spec.specs.Replay.{Answer, run, start, outcome, byLengths, replay}
 use Rattle.replay_slots.specs.declared.Slot.{Slot}
 use Rattle.replay_slots.specs.Said.{rowOf}
-use Rattle.replay_answer.specs.Answers.{refusedBy}
+use Rattle.replay_answer.specs.Answers.{ended}
 use Rattle.replay_slots.proofs.Rows.{row-length}
 
 pub fine-is : (v : Verdict) → passes v ≡ true → v ≡ Fine
@@ -35,14 +35,14 @@ module _ (sheet rules : List ℕ) where
   abbrev verdict : Verdict
   verdict = checkLengths narrow (replayRecords narrow) (length sheet) (length rules)
 
-  pub comes-refused : (row : List RowSlot) (v : Verdict) → v ≡ verdict → passes v ≡ false → (a : Answer) → a ≡ refusedBy v → outcome a row ≡ replay narrow sheet rules row
-  unfolding passes replay byLengths refusedBy
-  comes-refused row Fine e fails a so = cc
-  comes-refused row (Refused why) e fails a so = rw (← e, so)
+  pub comes-refused : (row : List RowSlot) (v : Verdict) → v ≡ verdict → passes v ≡ false → (a : Answer) (u : Tally) (p : Place) → a ≡ ended v 0 u p → outcome a row ≡ replay narrow sheet rules row
+  unfolding passes replay byLengths ended
+  comes-refused row Fine e fails a u p so = cc
+  comes-refused row (Refused why) e fails a u p so = rw (← e, so)
 
   -- the row is cleared, run through, and cleared again
   pub comes-fine : (ys zs₁ zs₂ zs₃ : List Slot) (a : Answer) → passes verdict ≡ true → rowOf zs₁ ≡ cleared (rowOf ys)
-      → (a ≡ run narrow rules sheet (length sheet / 24) 0 (state nothing (rowOf zs₁))) × (length zs₂ ≡ length zs₁) → rowOf zs₃ ≡ cleared (rowOf zs₂)
+      → (a ≡ run narrow rules sheet (length sheet / recordBytes narrow) 0 (state nothing (rowOf zs₁))) × (length zs₂ ≡ length zs₁) → rowOf zs₃ ≡ cleared (rowOf zs₂)
       → outcome a (rowOf zs₃) ≡ replay narrow sheet rules (rowOf ys)
   unfolding replay byLengths start
   comes-fine ys zs₁ zs₂ zs₃ a pass e₁ e₂ e₃ =

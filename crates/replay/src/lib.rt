@@ -5,6 +5,7 @@ ghost use Rattle.replay_spec.specs.Replay.{outcome, replay};
 ghost use Rattle.replay_slots.specs.Said.{rowOf};
 ghost use Rattle.replay_answer.specs.Answers.{said};
 use replay_slots::Slot;
+use sheet::RecordNo;
 
 pub mod own;
 mod run;
@@ -24,5 +25,10 @@ pub fn replay(sheet: &[u8], rules: &[u8], slots: &mut [Slot]) -> replay_answer::
         replay_row::clear(slots);
         return answer;
     }
-    replay_answer::refused(verdict)
+    replay_answer::end(
+        verdict,
+        RecordNo(0),
+        tally::nothing(),
+        replay_slots::nowhere(),
+    )
 }

@@ -3,7 +3,7 @@
 ghost use mathlib.Core.Path.{_≡_};
 ghost use Prim.Native.Nat.{min};
 ghost use lib.ListN.{replicate};
-ghost use Rattle.sheet.specs.Editions.{narrow};
+ghost use Rattle.sheet.specs.Editions.{narrow, replayRecords};
 ghost use Rattle.replay_spec.specs.Slots.{empty};
 ghost use Rattle.replay_spec.specs.Replay.{replay};
 ghost use Rattle.replay_answer.specs.Answers.{said};
@@ -11,7 +11,7 @@ use replay_answer::ReplayAnswer;
 
 // At most 1,023.
 pub fn enough(slots: usize) -> usize
-    ensures { λ n. ⌜ n ≡ min slots 1023 ⌝ }
+    ensures { λ n. ⌜ n ≡ min slots (replayRecords narrow) ⌝ }
 {
     if slots < sheet::limits::REPLAY_RECORDS {
         slots
@@ -24,7 +24,7 @@ pub fn replay_in(sheet: &[u8], rules: &[u8], slots: usize) -> ReplayAnswer
     ensures { λ r. ⌜ said r ≡ replay narrow (now (sheet .entry)) (now (rules .entry)) (replicate slots empty) .answer ⌝ }
 {
     let none = replay_slots::empty();
-    let mut row = [none; 1023];
+    let mut row = [none; sheet::limits::REPLAY_RECORDS];
     let n = enough(slots);
     crate::replay(sheet, rules, &mut row[..n])
 }

@@ -1,1 +1,1 @@
-mod Deciding
+pub mod Deciding

@@ -1,143 +1,154 @@
-// One step of the replay, on values alone: what a record comes to, given the tally and what a look through the slots has found. Whoever
-// has the row and the tally does no more than look, put and store.
+// One record of the replay, on values alone: what is looked for in the row, and what the record comes to, given the tally and what was
+// found. Whoever has the row and the tally does no more than look, put and store.
 ghost use mathlib.Core.Path.{_≡_};
-ghost use mathlib.Core.List.{List};
 ghost use Prim.Native.Nat.{_<_, _≤_};
-ghost use lib.ListN.{length, set};
-ghost use Rattle.sheet.specs.Editions.{narrow, replayRecords};
+ghost use mathlib.Core.Bool.{true};
+ghost use lib.ListN.{length};
+ghost use Rattle.sheet.specs.Editions.{narrow, recordBytes, replayRecords};
+ghost use Rattle.sheet.specs.Fields.{reading};
+ghost use Rattle.sheet.specs.Denote.{recordOf, readingOf};
 ghost use Rattle.tally.specs.Said.{tallyOf};
-ghost use Rattle.replay_spec.specs.Slots.{Slot as RowSlot, free, holding};
-ghost use Rattle.sheet.specs.Denote.{recordOf};
-ghost use Rattle.replay_spec.specs.Step.{Names as Named, namesIn, seenOf, after, state, stepped, taken, oneStep};
-ghost use Rattle.replay_slots.specs.Search.{search, namesRead};
-ghost use Rattle.replay_slots.specs.Said.{saidOfStep, slotOf, namesOf, seenIn, foundOf};
+ghost use Rattle.replay_spec.specs.Step.{answered};
+ghost use Rattle.replay_slots.specs.Said.{saidOfStep, placeOf, soughtOf, decidedOf};
+ghost use Rattle.replay_decide.specs.Decides.{leftSought, rightSought, roomSought, placed, keeps, decided};
 use replay_slots::Decided;
-use replay_slots::Found;
-use replay_slots::Names;
-use replay_slots::Seen;
+use replay_slots::Place;
+use replay_slots::Sought;
 use replay_slots::StepAnswer;
 use sheet::NodeNo;
 use sheet::Reading;
+use sheet::Reason;
 use sheet::Record;
 use sheet::RecordNo;
-use sheet::SlotNo;
 use sheet::Verdict;
 use tally::Tally;
 
-// The nodes that a record's bytes name; none where they don't read as a record.
-pub fn names_read(bytes: &[u8]) -> Names
-    ensures { λ ns. ⌜ namesOf ns ≡ namesRead narrow (now (bytes .entry)) ⌝ }
+// The record that a replay's bytes are: drops read too.
+pub fn read(bytes: &[u8]) -> Reading
+    requires { ⌜ recordBytes narrow ≤ length (now bytes) ⌝ }
+    ensures { λ w. ⌜ readingOf w ≡ reading narrow true (now (bytes .entry)) ⌝ }
 {
-    let none = Names {
-        left: NodeNo(0),
-        right: NodeNo(0),
-    };
-    if bytes.len() != sheet::limits::RECORD_BYTES {
-        return none;
-    }
-    let reading = sheet_read::read_record(bytes, true);
-    let Reading::Reads(r) = reading else {
-        return none;
-    };
-    replay_verdict::names_in(r)
+    sheet_read::read_record(bytes, true)
 }
 
-// Nothing is put, and the tally stays.
-fn unchanged(answer: StepAnswer, t: Tally, count: usize) -> Decided
-    ensures { λ d. ⌜ (d .answer ≡ answer) × (d .tally ≡ t) × (d .at .0 ≡ count) ⌝ }
+// A step names its left parent, and a drop its node.
+pub fn left_sought(reading: Reading) -> Sought
+    ensures { λ x. ⌜ soughtOf x ≡ leftSought (readingOf reading) ⌝ }
 {
-    Decided {
-        answer,
-        tally: t,
-        at: SlotNo(count),
-        slot: replay_slots::empty(),
+    let Reading::Reads(r) = reading else {
+        return Sought::Nothing;
+    };
+    match r {
+        Record::Given { line: _, clause: _ } => Sought::Nothing,
+        Record::Step {
+            pivot: _,
+            left,
+            right: _,
+            clause: _,
+        } => Sought::Node(left),
+        Record::Drop(n) => Sought::Node(n),
+    }
+}
+
+pub fn right_sought(reading: Reading) -> Sought
+    ensures { λ x. ⌜ soughtOf x ≡ rightSought (readingOf reading) ⌝ }
+{
+    let Reading::Reads(r) = reading else {
+        return Sought::Nothing;
+    };
+    match r {
+        Record::Given { line: _, clause: _ } => Sought::Nothing,
+        Record::Step {
+            pivot: _,
+            left: _,
+            right,
+            clause: _,
+        } => Sought::Node(right),
+        Record::Drop(_) => Sought::Nothing,
+    }
+}
+
+// A node needs a free slot.
+pub fn room_sought(reading: Reading) -> Sought
+    ensures { λ x. ⌜ soughtOf x ≡ roomSought (readingOf reading) ⌝ }
+{
+    let Reading::Reads(r) = reading else {
+        return Sought::Nothing;
+    };
+    match r {
+        Record::Given { line: _, clause: _ } => Sought::Free,
+        Record::Step {
+            pivot: _,
+            left: _,
+            right: _,
+            clause: _,
+        } => Sought::Free,
+        Record::Drop(_) => Sought::Nothing,
     }
 }
 
 // "A node takes the lowest free slot, and a drop zeroes its slot."
-fn take_record(t: Tally, r: Record, left: SlotNo, vacant: SlotNo) -> Decided
-    requires { ⌜ (t .next < replayRecords narrow) × (t .held ≤ t .next) × (t .steps ≤ t .next) ⌝ }
-    ensures { λ d. ⌜ ((slots : List RowSlot) → left .0 ≡ search (holding (namesIn (recordOf r) .left)) slots .at → vacant .0 ≡ search free slots .at → stepped (saidOfStep (d .answer)) (state (tallyOf (d .tally)) (set slots (d .at .0) (slotOf (d .slot)))) ≡ stepped taken (after (state (tallyOf t) slots) (recordOf r))) ⌝ }
+fn place_for(next: NodeNo, r: Record, left: Place, vacant: Place) -> Place
+    ensures { λ p. ⌜ placeOf p ≡ placed (next .0) (recordOf r) (placeOf left) (placeOf vacant) ⌝ }
 {
-    let then = tally::counted(t, r);
-    let node = NodeNo(t.next);
-    let answer = StepAnswer::Taken;
     match r {
-        Record::Given { line: _, clause } => Decided {
-            answer,
-            tally: then,
-            at: vacant,
-            slot: replay_slots::in_use(node, clause),
-        },
+        Record::Given { line: _, clause } => {
+            replay_slots::into(replay_slots::in_use(next, clause), vacant)
+        }
         Record::Step {
             pivot: _,
             left: _,
             right: _,
             clause,
-        } => Decided {
-            answer,
-            tally: then,
-            at: vacant,
-            slot: replay_slots::in_use(node, clause),
-        },
-        Record::Drop(_) => Decided {
-            answer,
-            tally: then,
-            at: left,
-            slot: replay_slots::empty(),
-        },
+        } => replay_slots::into(replay_slots::in_use(next, clause), vacant),
+        Record::Drop(_) => replay_slots::into(replay_slots::empty(), left),
     }
 }
 
-// What was found of two named nodes and of a free slot, in a row of so many.
-fn seen_of(left: Found, right: Found, vacant: Found, count: usize) -> Seen
-    ensures { λ s. ⌜ ((slots : List RowSlot) (ns : Named) → length slots ≡ count → foundOf left ≡ search (holding (ns .left)) slots → foundOf right ≡ search (holding (ns .right)) slots → foundOf vacant ≡ search free slots → seenIn s ≡ seenOf slots ns) ⌝ }
+// "A refused record changes neither tally nor slots."
+fn kept(why: Reason, t: Tally) -> Decided
+    ensures { λ d. ⌜ decidedOf d ≡ keeps why (tallyOf t) ⌝ }
 {
-    let at_left = left.at;
-    let at_right = right.at;
-    let at_vacant = vacant.at;
-    let slot_left = left.slot;
-    let slot_right = right.slot;
-    let clause_left = slot_left.clause;
-    let clause_right = slot_right.clause;
-    Seen {
-        left_held: at_left.0 < count,
-        left: clause_left,
-        right_held: at_right.0 < count,
-        right: clause_right,
-        roomy: at_vacant.0 < count,
+    Decided {
+        verdict: Verdict::Refused(why),
+        tally: t,
+        place: Place::Nowhere,
     }
 }
 
-// One record: "a refused record changes neither tally nor slots".
+// What a record comes to.
 pub fn decide(
     t: Tally,
     rules: &[u8],
-    bytes: &[u8],
-    number: RecordNo,
-    left: Found,
-    right: Found,
-    vacant: Found,
-    count: usize,
+    reading: Reading,
+    left: Place,
+    right: Place,
+    vacant: Place,
 ) -> Decided
-    ensures { λ d. ⌜ ((slots : List RowSlot) → length slots ≡ count → foundOf left ≡ search (holding (namesRead narrow (now (bytes .entry)) .left)) slots → foundOf right ≡ search (holding (namesRead narrow (now (bytes .entry)) .right)) slots → foundOf vacant ≡ search free slots → stepped (saidOfStep (d .answer)) (state (tallyOf (d .tally)) (set slots (d .at .0) (slotOf (d .slot)))) ≡ oneStep narrow (now (rules .entry)) (now (bytes .entry)) (number .0) (state (tallyOf t) slots)) ⌝ }
+    requires { ⌜ (t .next < replayRecords narrow) × (t .held ≤ t .next) × (t .steps ≤ t .next) ⌝ }
+    ensures { λ d. ⌜ decidedOf d ≡ decided narrow (now (rules .entry)) (tallyOf t) (readingOf reading) (placeOf left) (placeOf right) (placeOf vacant) ⌝ }
 {
-    if !replay_verdict::fits(rules.len(), bytes.len(), t) {
-        return unchanged(StepAnswer::Unfit, t, count);
-    }
-    let reading = sheet_read::read_record(bytes, true);
     let Reading::Reads(r) = reading else {
-        return unchanged(
-            StepAnswer::Refused(sheet_read::why_unread(reading), number),
-            t,
-            count,
-        );
+        return kept(sheet_read::why_unread(reading), t);
     };
-    let seen = seen_of(left, right, vacant, count);
-    let verdict = replay_verdict::check_record(rules, NodeNo(t.next), seen, r);
+    let next = NodeNo(t.next);
+    let verdict = replay_verdict::check_record(rules, next, r, left, right, vacant);
     match verdict {
-        Verdict::Fine => {}
-        Verdict::Refused(why) => return unchanged(StepAnswer::Refused(why, number), t, count),
+        Verdict::Fine => Decided {
+            verdict,
+            tally: tally::counted(t, r),
+            place: place_for(next, r, left, vacant),
+        },
+        Verdict::Refused(why) => kept(why, t),
     }
-    take_record(t, r, left.at, vacant.at)
+}
+
+// The step's answer to a record that fits.
+pub fn answered(verdict: Verdict, number: RecordNo) -> StepAnswer
+    ensures { λ a. ⌜ saidOfStep a ≡ answered (number .0) verdict ⌝ }
+{
+    match verdict {
+        Verdict::Fine => StepAnswer::Taken,
+        Verdict::Refused(why) => StepAnswer::Refused(why, number),
+    }
 }

@@ -3,7 +3,7 @@
 ghost use mathlib.Core.Path.{_≡_};
 ghost use Prim.Native.Nat.{_/_, min};
 ghost use lib.ListN.{length, replicate};
-ghost use Rattle.sheet.specs.Editions.{narrow};
+ghost use Rattle.sheet.specs.Editions.{narrow, recordBytes, replayRecords};
 ghost use Rattle.tally.specs.Tally.{nothing};
 ghost use Rattle.replay_spec.specs.Slots.{empty};
 ghost use Rattle.replay_spec.specs.Step.{state, taken};
@@ -24,7 +24,7 @@ pub struct Look {
 
 // No more records than the sheet has whole.
 fn upto(records: usize, bytes: usize) -> usize
-    ensures { λ n. ⌜ n ≡ min records (bytes / 24) ⌝ }
+    ensures { λ n. ⌜ n ≡ min records (bytes / recordBytes narrow) ⌝ }
 {
     let whole = bytes / sheet::limits::RECORD_BYTES;
     if records < whole { records } else { whole }
@@ -38,7 +38,7 @@ fn untried() -> StepAnswer
 }
 
 fn look_from(sheet: &[u8], rules: &[u8], slots: &mut [Slot], records: usize, at: SlotNo) -> Look
-    ensures { λ r. ⌜ lookOf r ≡ lookAt (at .0) (afterRecords narrow (now (rules .entry)) (now (sheet .entry)) (state nothing (rowOf (now (slots .entry)))) (min records (length (now (sheet .entry)) / 24))) ⌝ }
+    ensures { λ r. ⌜ lookOf r ≡ lookAt (at .0) (afterRecords narrow (now (rules .entry)) (now (sheet .entry)) (state nothing (rowOf (now (slots .entry)))) (min records (length (now (sheet .entry)) / recordBytes narrow))) ⌝ }
 {
     let n = upto(records, sheet.len());
     let mut t = tally::nothing();
@@ -59,10 +59,10 @@ fn look_from(sheet: &[u8], rules: &[u8], slots: &mut [Slot], records: usize, at:
 
 // In a row of as many slots, but of at most 1,023.
 pub fn look_after(sheet: &[u8], rules: &[u8], slots: usize, records: usize, at: SlotNo) -> Look
-    ensures { λ r. ⌜ lookOf r ≡ lookAt (at .0) (afterRecords narrow (now (rules .entry)) (now (sheet .entry)) (state nothing (replicate (min slots 1023) empty)) (min records (length (now (sheet .entry)) / 24))) ⌝ }
+    ensures { λ r. ⌜ lookOf r ≡ lookAt (at .0) (afterRecords narrow (now (rules .entry)) (now (sheet .entry)) (state nothing (replicate (min slots (replayRecords narrow)) empty)) (min records (length (now (sheet .entry)) / recordBytes narrow))) ⌝ }
 {
     let none = replay_slots::empty();
-    let mut row = [none; 1023];
+    let mut row = [none; sheet::limits::REPLAY_RECORDS];
     let n = own::enough(slots);
     look_from(sheet, rules, &mut row[..n], records, at)
 }

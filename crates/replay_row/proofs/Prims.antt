@@ -1,7 +1,7 @@
 -- What a walk that has the row open says at a call of `replay_row::find`, `slot_at`, `put`, `free` or `clear`: one step each. All that it knows of them is that each meets its contract.
---     call-find    `find(&slots, x)`: the row, at any share, is as it was, and the result is the machine value of what a search through the row finds
+--     call-find    `find(&slots, x)`: the row, at any share, is as it was, and the result is the machine value of the place that a look through the row finds
 --     call-slot-at `slot_at(&slots, at)`: the row, at any share, is as it was, and the result is the machine value of a slot that is the one there, or an empty one
---     call-put     `put(&mut slots, at, s)`: the row is then `set ys (at .0) s`, and the result is ()
+--     call-put     `put(&mut slots, p)`: the row is then some list of slots whose `rowOf` is the row with the slot put, and the result is ()
 --     call-free    `free(&mut slots, at)`: the row is then some list of slots whose `rowOf` is a `set` of the empty one
 --     call-clear   `clear(&mut slots)`: the row is then some list of slots whose `rowOf` is cleared
 -- Each takes that the operands are read, in a context with two entries in the place of the row.
@@ -39,22 +39,22 @@ use denote.Triple.Spec.{tripleOf}
 use denote.Triple.Call.{calls-at}
 use denote.Triple.Clauses.{lasts}
 use Rattle.replay_spec.specs.Slots.{empty, cleared}
+use Rattle.replay_spec.specs.Slots.{look as look-for, put as put-into}
 use Rattle.sheet.specs.declared.SlotNo.{SlotNo}
 use Rattle.sheet.proofs.SlotNo as N
 use Rattle.sheet.proofs.SlotNo.Laws as N′
-use Rattle.replay_slots.specs.Search.{search as look-for}
-use Rattle.replay_slots.specs.Said.{slotOf, rowOf, soughtIn, foundOf}
+use Rattle.replay_slots.specs.Said.{slotOf, rowOf, soughtOf, placeOf}
 use Rattle.replay_slots.specs.declared.Slot.{Slot}
-use Rattle.replay_slots.specs.declared.Found.{Found}
+use Rattle.replay_slots.specs.declared.Place.{Place as Placed}
 use Rattle.replay_slots.specs.declared.Sought.{Sought}
 use Rattle.replay_slots.proofs.Slot as T
 use Rattle.replay_slots.proofs.Slot.Laws as T′
-use Rattle.replay_slots.proofs.Found as F
-use Rattle.replay_slots.proofs.Found.Laws as F′
+use Rattle.replay_slots.proofs.Place as F
+use Rattle.replay_slots.proofs.Place.Laws as F′
 use Rattle.replay_slots.proofs.Sought as G
 use Rattle.replay_slots.proofs.Sought.Laws as G′
 use Rattle.replay_slots.proofs.empty as empty′
-pub use Rattle.replay_row.proofs.Cells.{sv, nv, gv, fv}
+pub use Rattle.replay_row.proofs.Cells.{sv, nv, gv, pv}
 use Rattle.lending.proofs.Rows.{rows, lend-row, row-back, share-row, unshare-row}
 use Rattle.replay_row.proofs.find as find
 use Rattle.replay_row.proofs.find.Symbol.{name as #find}
@@ -94,8 +94,8 @@ module _ {M : Type 1} (𝓤 : URA M) (H : Heap 𝓤) (A : Atoms 𝓤) (at-mem : 
   abbrev pub to-slot-at : ℕ → GName → List Slot → ℕ → ℕ → SlotNo → Slot-at .Ghost
   to-slot-at ν δ ys b o at = (((ν ∷ [], tt), (fullShare, tt), tt, (rows b o δ ys, (at, tt)), (sliceVal (b, o) (length ys) ∷ [], (nv at ∷ [], tt))), tt)
 
-  abbrev pub to-put : ℕ → GName → List Slot → ℕ → ℕ → SlotNo → Slot → Put .Ghost
-  to-put ν δ ys b o at s = (((ν ∷ [], tt), (fullShare, tt), tt, (rows b o δ ys, (at, (s, tt))), (sliceVal (b, o) (length ys) ∷ [], (nv at ∷ [], (sv s ∷ [], tt)))), tt)
+  abbrev pub to-put : ℕ → GName → List Slot → ℕ → ℕ → Placed → Put .Ghost
+  to-put ν δ ys b o p = (((ν ∷ [], tt), (fullShare, tt), tt, (rows b o δ ys, (p, tt)), (sliceVal (b, o) (length ys) ∷ [], (pv p ∷ [], tt))), tt)
 
   abbrev pub to-free : ℕ → GName → List Slot → ℕ → ℕ → SlotNo → Free .Ghost
   to-free ν δ ys b o at = (((ν ∷ [], tt), (fullShare, tt), tt, (rows b o δ ys, (at, tt)), (sliceVal (b, o) (length ys) ∷ [], (nv at ∷ [], tt))), tt)
@@ -114,10 +114,10 @@ module _ {M : Type 1} (𝓤 : URA M) (H : Heap 𝓤) (A : Atoms 𝓤) (at-mem : 
         qed W (‵ (flft (ν ∷ []) fullShare) ∷ ‵ (ShrSlice (named 0) (ν ∷ []) T.the-row .own (rows b o δ ys) (sliceVal (b, o) (length ys) ∷ [])) ∷ []) ∵ nothing ! $ move ! (1 ∷ 0 ∷ []) $ join ! $
         nothing ! $ owned ! N.the-row (Is N.the-row) (LL.makes N.the-type N′.the-plain 𝓤 H A) at _ g $ fjoin ! $ move ! (2 ∷ 0 ∷ []) $ fjoin ! $ move ! (1 ∷ 0 ∷ []) $ join ! $ nothing ! $ move ! (1 ∷ 0 ∷ []) $ done !
 
-    goes-put : (at : SlotNo) (s : Slot) → Is N.the-row at (nv at ∷ []) → Is T.the-row s (sv s ∷ []) → ent 𝓤 (sep 𝓤 (A .lft (ν ∷ []) fullShare) (sem 𝓤 H A (MutSlice (named 0) (ν ∷ []) T.the-row .own (rows b o δ ys) (sliceVal (b, o) (length ys) ∷ [])))) (Put .pre (to-put ν δ ys b o at s))
-    goes-put at s h g =
+    goes-put : (p : Placed) → Is F.the-row p (pv p ∷ []) → ent 𝓤 (sep 𝓤 (A .lft (ν ∷ []) fullShare) (sem 𝓤 H A (MutSlice (named 0) (ν ∷ []) T.the-row .own (rows b o δ ys) (sliceVal (b, o) (length ys) ∷ [])))) (Put .pre (to-put ν δ ys b o p))
+    goes-put p g =
         qed W (‵ (flft (ν ∷ []) fullShare) ∷ ‵ (MutSlice (named 0) (ν ∷ []) T.the-row .own (rows b o δ ys) (sliceVal (b, o) (length ys) ∷ [])) ∷ []) ∵ nothing ! $ move ! (1 ∷ 0 ∷ []) $ join ! $
-        nothing ! $ owned ! T.the-row (Is T.the-row) (LL.makes T.the-type T′.the-plain 𝓤 H A) s _ g $ fjoin ! $ owned ! N.the-row (Is N.the-row) (LL.makes N.the-type N′.the-plain 𝓤 H A) at _ h $ fjoin ! $ move ! (2 ∷ 0 ∷ []) $ fjoin ! $ move ! (1 ∷ 0 ∷ []) $ join ! $ nothing ! $ move ! (1 ∷ 0 ∷ []) $ done !
+        nothing ! $ owned ! F.the-row (Is F.the-row) (EL.makes F.the-type F′.the-plain 𝓤 H A) p _ g $ fjoin ! $ move ! (2 ∷ 0 ∷ []) $ fjoin ! $ move ! (1 ∷ 0 ∷ []) $ join ! $ nothing ! $ move ! (1 ∷ 0 ∷ []) $ done !
 
     goes-free : (at : SlotNo) → Is N.the-row at (nv at ∷ []) → ent 𝓤 (sep 𝓤 (A .lft (ν ∷ []) fullShare) (sem 𝓤 H A (MutSlice (named 0) (ν ∷ []) T.the-row .own (rows b o δ ys) (sliceVal (b, o) (length ys) ∷ [])))) (Free .pre (to-free ν δ ys b o at))
     goes-free at h =
@@ -133,16 +133,16 @@ module _ {M : Type 1} {𝓤 : URA M} {H : Heap 𝓤} {A : Atoms 𝓤} {K : Type 
     {E : Env 𝓤 H} {C : Calls 𝓤 H} {Λ : Loops 𝓤 H} {q : Post 𝓤 H} {d : Place} {rest : Body} {xs : List Operand} where
   pub call-find : K → (at-mem : Memory → SProp 𝓤) (run : Routine → Fun 𝓤) → FmC 𝓤 H (W .laws) C → Triple 𝓤 (C #find) (Find 𝓤 H A at-mem run) → (p : Share) (ys : List Slot) (b o : ℕ) (x : Sought) → Room T.the-row (length ys) → Is G.the-row x (gv x ∷ [])
       → ((ν : ℕ) (δ : GName) → Opds K W (raw (Find 𝓤 H A at-mem run .pre (to-find 𝓤 H A at-mem run ν δ ys b o x)) ∷ ‵ (flent (ν ∷ []) (arr-parts (shares T.the-row) (length ys) .part p ys b o)) ∷ Γ) E xs (sliceVal (b, o) (length ys) ∷ gv x ∷ []))
-      → ((r : Found) → foundOf r ≡ look-for (soughtIn x) (rowOf ys) → Is F.the-row r (fv r ∷ []) → Seq K W (‵ (row T.the-row p ys b o) ∷ Γ) (lands C Λ E d (fv r) rest q))
+      → ((r : Placed) → placeOf r ≡ look-for (soughtOf x) (rowOf ys) → Is F.the-row r (pv r ∷ []) → Seq K W (‵ (row T.the-row p ys b o) ∷ Γ) (lands C Λ E d (pv r) rest q))
       → Seq K W (‵ (row T.the-row p ys b o) ∷ Γ) (runs C Λ E (seq (call #find xs d) rest) q)
   call-find t at-mem run fm known p ys b o x room g os k =
       share-row t tt T.the-row p ys b o room (λ ν δ. use2 W (raw (Find 𝓤 H A at-mem run .pre (to-find 𝓤 H A at-mem run ν δ ys b o x))) (goes-find 𝓤 H A at-mem run W ν δ ys b o x g) $
       calls-at t fm (Find 𝓤 H A at-mem run) known (to-find 𝓤 H A at-mem run ν δ ys b o x) (os ν δ) (λ w.
-      use1 W (later (some (λ (r : Found). ((‵ (flft (ν ∷ []) fullShare) ⊛ ‵ ftrue) ⊛ ‵ (F.the-row .own r (w ∷ []))) ⊛ some (λ (ws : Unit {0} × (Unit {0} × Unit {0})). ‵ (lasts find.ended (ν ∷ [], tt) (rows b o δ ys, (x, tt)) ws) ⊛ raw (fact 𝓤 (foundOf r ≡ look-for (soughtIn x) (rowOf ys))))))) (id⊢ 𝓤 _) $ await t tt $ pick t (λ r.
-      split t $ move t (1 ∷ []) $ pick t (λ ws. split t $ drop t $ heard t (foundOf r ≡ look-for (soughtIn x) (rowOf ys)) (λ e. split t $ split t $ move t (2 ∷ []) $
+      use1 W (later (some (λ (r : Placed). ((‵ (flft (ν ∷ []) fullShare) ⊛ ‵ ftrue) ⊛ ‵ (F.the-row .own r (w ∷ []))) ⊛ some (λ (ws : Unit {0} × (Unit {0} × Unit {0})). ‵ (lasts find.ended (ν ∷ [], tt) (rows b o δ ys, (x, tt)) ws) ⊛ raw (fact 𝓤 (placeOf r ≡ look-for (soughtOf x) (rowOf ys))))))) (id⊢ 𝓤 _) $ await t tt $ pick t (λ r.
+      split t $ move t (1 ∷ []) $ pick t (λ ws. split t $ drop t $ heard t (placeOf r ≡ look-for (soughtOf x) (rowOf ys)) (λ e. split t $ split t $ move t (2 ∷ []) $
       peeks t F.the-row (Is F.the-row) (shows 𝓤 H A F.the-row) r (w ∷ []) (λ is. drop t $ move t (0 ∷ 2 ∷ []) $ unshare-row t tt T.the-row p ys b o $ move t (1 ∷ []) $ drop t $
-      subst (λ (u : Val). Seq K W (‵ (row T.the-row p ys b o) ∷ Γ) (lands C Λ E d u rest q)) (sym (ap only (LL.tells F.the-type F′.the-laws r (w ∷ []) is)))
-      (k r e (subst (λ (us : List Val). Is F.the-row r us) (LL.tells F.the-type F′.the-laws r (w ∷ []) is) is))))))))
+      subst (λ (u : Val). Seq K W (‵ (row T.the-row p ys b o) ∷ Γ) (lands C Λ E d u rest q)) (sym (ap only (EL.tells F.the-type F′.the-laws r (w ∷ []) is)))
+      (k r e (subst (λ (us : List Val). Is F.the-row r us) (EL.tells F.the-type F′.the-laws r (w ∷ []) is) is))))))))
 
   pub call-slot-at : K → (at-mem : Memory → SProp 𝓤) (run : Routine → Fun 𝓤) → FmC 𝓤 H (W .laws) C → Triple 𝓤 (C #slot-at) (Slot-at 𝓤 H A at-mem run) → (p : Share) (ys : List Slot) (b o : ℕ) (at : SlotNo) → Room T.the-row (length ys) → Is N.the-row at (nv at ∷ [])
       → ((ν : ℕ) (δ : GName) → Opds K W (raw (Slot-at 𝓤 H A at-mem run .pre (to-slot-at 𝓤 H A at-mem run ν δ ys b o at)) ∷ ‵ (flent (ν ∷ []) (arr-parts (shares T.the-row) (length ys) .part p ys b o)) ∷ Γ) E xs (sliceVal (b, o) (length ys) ∷ nv at ∷ []))
@@ -175,13 +175,12 @@ module _ {M : Type 1} {𝓤 : URA M} {H : Heap 𝓤} {A : Atoms 𝓤} {K : Type 
       move t (0 ∷ 5 ∷ 2 ∷ []) $ row-back t tt T.the-row (length ys) (last ws) b o $ move t (1 ∷ []) $ drop t $ move t (1 ∷ []) $ drop t $ move t (1 ∷ []) $ drop t $
       subst (λ (u : Val). Seq K W (‵ (row T.the-row fullShare (last ws) b o) ∷ Γ) (lands C Λ E d u rest q)) (sym (ap only (nothing-tells r (w ∷ []) is))) (k (last ws) e)))))))
 
-  pub call-put : K → (at-mem : Memory → SProp 𝓤) (run : Routine → Fun 𝓤) → FmC 𝓤 H (W .laws) C → Triple 𝓤 (C #put) (Put 𝓤 H A at-mem run) → (ys : List Slot) (b o : ℕ) (at : SlotNo) (s : Slot) → Room T.the-row (length ys) → Is N.the-row at (nv at ∷ []) → Is T.the-row s (sv s ∷ [])
-      → ((ν : ℕ) (δ : GName) → Opds K W (raw (Put 𝓤 H A at-mem run .pre (to-put 𝓤 H A at-mem run ν δ ys b o at s)) ∷ ‵ (flent (ν ∷ []) (Held T.the-row (length ys) b o δ)) ∷ Γ) E xs (sliceVal (b, o) (length ys) ∷ nv at ∷ sv s ∷ []))
-      → Seq K W (‵ (row T.the-row fullShare (set ys (at .0) s) b o) ∷ Γ) (lands C Λ E d vunit rest q)
+  pub call-put : K → (at-mem : Memory → SProp 𝓤) (run : Routine → Fun 𝓤) → FmC 𝓤 H (W .laws) C → Triple 𝓤 (C #put) (Put 𝓤 H A at-mem run) → (ys : List Slot) (b o : ℕ) (p : Placed) → Room T.the-row (length ys) → Is F.the-row p (pv p ∷ [])
+      → ((ν : ℕ) (δ : GName) → Opds K W (raw (Put 𝓤 H A at-mem run .pre (to-put 𝓤 H A at-mem run ν δ ys b o p)) ∷ ‵ (flent (ν ∷ []) (Held T.the-row (length ys) b o δ)) ∷ Γ) E xs (sliceVal (b, o) (length ys) ∷ pv p ∷ []))
+      → ((zs : List Slot) → rowOf zs ≡ put-into (placeOf p) (rowOf ys) → Seq K W (‵ (row T.the-row fullShare zs b o) ∷ Γ) (lands C Λ E d vunit rest q))
       → Seq K W (‵ (row T.the-row fullShare ys b o) ∷ Γ) (runs C Λ E (seq (call #put xs d) rest) q)
-  call-put t at-mem run fm known ys b o at s room h g os k =
-      call-row t fm (Put 𝓤 H A at-mem run) known ys b o room (λ ν δ. to-put 𝓤 H A at-mem run ν δ ys b o at s) (λ ν δ. goes-put 𝓤 H A at-mem run W ν δ ys b o at s h g) {X = List Slot × (Unit {0} × (Unit {0} × Unit {0}))} (λ ws. ws .0) (fsep ftrue (fsep ftrue ftrue)) (λ zs. zs ≡ set ys (at .0) s) (λ ν δ w. id⊢ 𝓤 _) os
-      (λ zs e. subst (λ (us : List Slot). Seq K W (‵ (row T.the-row fullShare us b o) ∷ Γ) (lands C Λ E d vunit rest q)) (sym e) k)
+  call-put t at-mem run fm known ys b o p room g os k =
+      call-row t fm (Put 𝓤 H A at-mem run) known ys b o room (λ ν δ. to-put 𝓤 H A at-mem run ν δ ys b o p) (λ ν δ. goes-put 𝓤 H A at-mem run W ν δ ys b o p g) {X = List Slot × (Unit {0} × Unit {0})} (λ ws. ws .0) (fsep ftrue ftrue) (λ zs. rowOf zs ≡ put-into (placeOf p) (rowOf ys)) (λ ν δ w. id⊢ 𝓤 _) os k
 
   pub call-free : K → (at-mem : Memory → SProp 𝓤) (run : Routine → Fun 𝓤) → FmC 𝓤 H (W .laws) C → Triple 𝓤 (C #free) (Free 𝓤 H A at-mem run) → (ys : List Slot) (b o : ℕ) (at : SlotNo) → Room T.the-row (length ys) → Is N.the-row at (nv at ∷ [])
       → ((ν : ℕ) (δ : GName) → Opds K W (raw (Free 𝓤 H A at-mem run .pre (to-free 𝓤 H A at-mem run ν δ ys b o at)) ∷ ‵ (flent (ν ∷ []) (Held T.the-row (length ys) b o δ)) ∷ Γ) E xs (sliceVal (b, o) (length ys) ∷ nv at ∷ []))

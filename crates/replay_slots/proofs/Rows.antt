@@ -1,15 +1,16 @@
--- Laws of the row that a lent slice of slots is, and where a look through it ends.
-use mathlib.Core.Path.{_≡_, sym, ap, _∙_}
-use mathlib.Core.Bool.{Bool, true, false}
+-- Laws of the row that a lent slice of slots is, where a look through it ends, and what it is once a slot is put into it.
+use mathlib.Core.Path.{_≡_, refl, sym, ap, ap₂, _∙_}
+use mathlib.Core.Bool.{true, false}
 use mathlib.Core.List.{List}
-use Prim.Native.Nat.{ℕ, _<_}
+use Prim.Native.Nat.{ℕ, _≤_, _<_}
 use native.Mathlib.Omega.{arith}
-use lib.ListN.{length, getD, set, length-map, List·getD-map, List·getD-eq-default}
+use lib.ListN.{length, getD, set, length-map, List·getD-map}
+use lib.Seq.{set-out}
 use Rattle.base.proofs.Lists.{map-set}
-use Rattle.replay_spec.specs.Slots.{Slot, empty, first}
-use Rattle.replay_spec.proofs.Slots.{first-at, first-none}
+use Rattle.replay_spec.specs.Slots.{Slot, empty, free, holding, Place, nowhere, at, slotIn, put, Sought, nothing, vacancy, holder, look}
+use Rattle.replay_spec.proofs.Slots.{find-at, find-none}
 use Rattle.replay_slots.specs.declared.Slot.{Slot as CodeSlot}
-use Rattle.replay_slots.specs.Search.{found, search}
+use Rattle.replay_slots.specs.Looks.{isSought, passed, indexIn}
 use Rattle.replay_slots.specs.Said.{slotOf, rowOf}
 
 pub row-length : (ys : List CodeSlot) → length (rowOf ys) ≡ length ys
@@ -27,19 +28,37 @@ row-at ys i z e = ap (getD (rowOf ys) i) (sym e) ∙ List·getD-map slotOf ys i 
 
 -- ---- a look through the row
 
-module _ (test : Slot → Bool) (row : List Slot) where
-  -- it ends at i, or with none
-  pub search-found : (i : ℕ) (x : Slot) → i < length row → x ≡ getD row i empty → test x ≡ true
-      → ((j : ℕ) → j < i → test (getD row j empty) ≡ false) → found i x ≡ search test row
-  unfolding search
-  search-found i x h e p before =
-      let q : first test row ≡ i = first-at test row empty i h (rw (← e) p) before in
-      rw q (ap (found i) e)
+pub passed-le : (x : Sought) (n : ℕ) → passed x n ≤ n
+unfolding passed
+passed-le nothing n = omega arith
+passed-le vacancy n = omega arith
+passed-le (holder m) n = omega arith
 
-  pub search-missing : (i : ℕ) (x : Slot) → i ≡ length row → x ≡ empty
-      → ((j : ℕ) → j < i → test (getD row j empty) ≡ false) → found i x ≡ search test row
-  unfolding search
-  search-missing i x h e before =
-      let q : first test row ≡ i = first-none test row empty (λ j l. before j (omega (arith, h, l))) ∙ sym h in
-      let z : getD row i empty ≡ empty = List·getD-eq-default row empty {n = i} (omega (arith, h)) in
-      rw q (ap (found i) (e ∙ sym z))
+module _ (row : List Slot) where
+  -- it ends at i
+  pub look-at : (x : Sought) (i : ℕ) (s : Slot) → i < length row → getD row i empty ≡ s → isSought x s ≡ true
+      → ((j : ℕ) → j < i → isSought x (getD row j empty) ≡ false) → look x row ≡ at i s
+  unfolding isSought look
+  look-at nothing i s h is e before = cc
+  look-at vacancy i s h is e before = find-at free row i s h is e before
+  look-at (holder n) i s h is e before = find-at (holding n) row i s h is e before
+
+  -- or nowhere
+  pub look-none : (x : Sought) (n : ℕ) → n ≡ passed x (length row) → ((j : ℕ) → j < n → isSought x (getD row j empty) ≡ false) → look x row ≡ nowhere
+  unfolding isSought look passed
+  look-none nothing n q fails = refl
+  look-none vacancy n q fails = find-none free row (λ j l. fails j (omega arith))
+  look-none (holder m) n q fails = find-none (holding m) row (λ j l. fails j (omega arith))
+
+-- ---- a slot put into it
+
+module _ (ys : List CodeSlot) (i : ℕ) where
+  pub put-in : (p : Place) (s : CodeSlot) → i ≡ indexIn p (length ys) → i < length ys → slotOf s ≡ slotIn p → rowOf (set ys i s) ≡ put p (rowOf ys)
+  unfolding indexIn slotIn put
+  put-in nowhere s q h e = absurd (omega arith)
+  put-in (at j x) s q h e = row-set ys i s ∙ ap₂ (set (rowOf ys)) q e
+
+  pub put-out : (p : Place) → i ≡ indexIn p (length ys) → length ys ≤ i → rowOf ys ≡ put p (rowOf ys)
+  unfolding indexIn put
+  put-out nowhere q h = refl
+  put-out (at j x) q h = sym (set-out (rowOf ys) j x (omega (arith, row-length ys)))

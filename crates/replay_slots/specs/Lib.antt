@@ -1,2 +1,2 @@
-pub mod Search
+pub mod Looks
 pub mod Said

@@ -1,19 +1,20 @@
 -- What the code's values are, and what a step's answer says: the paper's number and values for each case.
-use mathlib.Core.Bool.{Bool}
 use mathlib.Core.List.{List, map}
 use Rattle.clause.specs.Denote.{literalsOf}
+use Rattle.sheet.specs.declared.Verdict.{Verdict}
 use Rattle.sheet.specs.Reasons.{numberOf}
+use Rattle.tally.specs.Tally.{Tally}
+use Rattle.tally.specs.Said.{tallyOf}
 use Rattle.replay_slots.specs.declared.Slot.{Slot as CodeSlot}
-use Rattle.replay_slots.specs.declared.Found.{Found as CodeFound}
-use Rattle.replay_slots.specs.declared.Sought.{Sought}
+use Rattle.replay_slots.specs.declared.Place.{Place as CodePlace}
+use Rattle.replay_slots.specs.declared.Place.the-variants as P
+use Rattle.replay_slots.specs.declared.Sought.{Sought as CodeSought}
 use Rattle.replay_slots.specs.declared.Sought.the-variants as L
-use Rattle.replay_slots.specs.declared.Names.{Names as CodeNames}
-use Rattle.replay_slots.specs.declared.Seen.{Seen as CodeSeen}
+use Rattle.replay_slots.specs.declared.Decided.{Decided as CodeDecided}
 use Rattle.replay_slots.specs.declared.StepAnswer.{StepAnswer}
 use Rattle.replay_slots.specs.declared.StepAnswer.the-variants as S
-use Rattle.replay_spec.specs.Slots.{Slot, slot, free, holding}
-use Rattle.replay_spec.specs.Step.{Names, names, Seen, Step, taken, refused, unfit}
-use Rattle.replay_slots.specs.Search.{Found, found}
+use Rattle.replay_spec.specs.Slots.{Slot, slot, Place, nowhere, at, Sought, nothing, vacancy, holder}
+use Rattle.replay_spec.specs.Step.{Step, taken, refused, unfit}
 
 abbrev pub slotOf : CodeSlot → Slot
 slotOf s = slot (s .used) (s .node) (literalsOf (s .clause))
@@ -22,25 +23,23 @@ slotOf s = slot (s .used) (s .node) (literalsOf (s .clause))
 unfoldable pub rowOf : List CodeSlot → List Slot
 rowOf slots = map slotOf slots
 
-unfoldable pub soughtIn : Sought → Slot → Bool
-soughtIn L.Free = free
-soughtIn (L.Node n) = holding (n .0)
+abbrev pub placeOf : CodePlace → Place
+placeOf P.Nowhere = nowhere
+placeOf (P.At i s) = at (i .0) (slotOf s)
 
-abbrev pub foundOf : CodeFound → Found
-foundOf f = found (f .at .0) (slotOf (f .slot))
+abbrev pub soughtOf : CodeSought → Sought
+soughtOf L.Nothing = nothing
+soughtOf L.Free = vacancy
+soughtOf (L.Node n) = holder (n .0)
 
-abbrev pub namesOf : CodeNames → Names
-namesOf ns = names (ns .left .0) (ns .right .0)
+-- what is decided on: what the checks say, the tally then, and where a slot is put
+pub record Decided : Type 0 where
+  pub verdict : Verdict
+  pub tally : Tally
+  pub place : Place
 
-abbrev pub seenIn : CodeSeen → Seen
-seenIn s =
-    record {
-      leftHeld = s .«left_held»;
-      left = literalsOf (s .left);
-      rightHeld = s .«right_held»;
-      right = literalsOf (s .right);
-      roomy = s .roomy;
-    }
+abbrev pub decidedOf : CodeDecided → Decided
+decidedOf d = record { verdict = d .verdict; tally = tallyOf (d .tally); place = placeOf (d .place) }
 
 unfoldable pub saidOfStep : StepAnswer → Step
 saidOfStep S.Taken = taken

@@ -1,14 +1,15 @@
-// What a step of the replay works on: slots, and what a look through the row has found.
+// What a step of the replay works on: slots, places in the row, and what is looked for and decided.
 ghost use mathlib.Core.Path.{_≡_};
 ghost use Rattle.clause.specs.Denote.{literalsOf};
-ghost use Rattle.replay_spec.specs.Slots.{slot, empty, holding};
-ghost use Rattle.replay_slots.specs.Said.{slotOf, soughtIn};
+ghost use Rattle.replay_spec.specs.Slots.{slot, empty, holding, nowhere, at, slotIn, into};
+ghost use Rattle.replay_slots.specs.Said.{slotOf, placeOf, soughtOf};
+ghost use Rattle.replay_slots.specs.Looks.{isSought, passed, indexIn};
 use clause::Clause;
-use clause::Set;
 use sheet::NodeNo;
 use sheet::Reason;
 use sheet::RecordNo;
 use sheet::SlotNo;
+use sheet::Verdict;
 use tally::Tally;
 
 // A slot of the row: a mark of use (not zero: in use), a node's number, and its clause's two sets. A free slot is all zero. Each of its
@@ -27,39 +28,24 @@ pub enum StepAnswer {
     Unfit,
 }
 
-// What is looked for in the row: a free slot, or the one that holds a node.
+// What is looked for in the row: nothing, a free slot, or the one that holds a node.
 pub enum Sought {
+    Nothing,
     Free,
     Node(NodeNo),
 }
 
-// Where it stands, and the slot there; past the row, an empty one.
-pub struct Found {
-    pub at: SlotNo,
-    pub slot: Slot,
+// A place in the row, with the slot that is found there or put there; or nowhere.
+pub enum Place {
+    Nowhere,
+    At(SlotNo, Slot),
 }
 
-// What a record comes to: the answer, the tally after it, and the slot that is put into the row; past the row, none is.
+// What a record comes to: what the checks say, the tally after it, and where a slot is put.
 pub struct Decided {
-    pub answer: StepAnswer,
+    pub verdict: Verdict,
     pub tally: Tally,
-    pub at: SlotNo,
-    pub slot: Slot,
-}
-
-// The nodes that a record names.
-pub struct Names {
-    pub left: NodeNo,
-    pub right: NodeNo,
-}
-
-// What the slots show of two named nodes, and whether one is free.
-pub struct Seen {
-    pub left_held: bool,
-    pub left: Clause,
-    pub right_held: bool,
-    pub right: Clause,
-    pub roomy: bool,
+    pub place: Place,
 }
 
 pub fn empty() -> Slot
@@ -68,10 +54,7 @@ pub fn empty() -> Slot
     Slot {
         used: 0,
         node: 0,
-        clause: Clause {
-            positive: Set(0),
-            negative: Set(0),
-        },
+        clause: clause::nothing(),
     }
 }
 
@@ -94,10 +77,64 @@ fn holds(s: Slot, n: NodeNo) -> bool
 
 // Whether a slot is the one sought.
 pub fn is_sought(s: Slot, sought: Sought) -> bool
-    ensures { λ b. ⌜ b ≡ soughtIn sought (slotOf s) ⌝ }
+    ensures { λ b. ⌜ b ≡ isSought (soughtOf sought) (slotOf s) ⌝ }
 {
     match sought {
+        Sought::Nothing => false,
         Sought::Free => s.used == 0,
         Sought::Node(n) => holds(s, n),
+    }
+}
+
+// How many of the row's slots are passed in a look that ends nowhere: where nothing is sought, none.
+pub fn passed(sought: Sought, slots: usize) -> usize
+    ensures { λ n. ⌜ n ≡ passed (soughtOf sought) slots ⌝ }
+{
+    match sought {
+        Sought::Nothing => 0,
+        Sought::Free => slots,
+        Sought::Node(_) => slots,
+    }
+}
+
+pub fn nowhere() -> Place
+    ensures { λ p. ⌜ placeOf p ≡ nowhere ⌝ }
+{
+    Place::Nowhere
+}
+
+pub fn at(i: SlotNo, slot: Slot) -> Place
+    ensures { λ p. ⌜ placeOf p ≡ at (i .0) (slotOf slot) ⌝ }
+{
+    Place::At(i, slot)
+}
+
+// The same place with another slot.
+pub fn into(slot: Slot, place: Place) -> Place
+    ensures { λ p. ⌜ placeOf p ≡ into (slotOf slot) (placeOf place) ⌝ }
+{
+    match place {
+        Place::Nowhere => Place::Nowhere,
+        Place::At(i, _) => Place::At(i, slot),
+    }
+}
+
+// Nowhere nothing is held.
+pub fn slot_in(place: Place) -> Slot
+    ensures { λ s. ⌜ slotOf s ≡ slotIn (placeOf place) ⌝ }
+{
+    match place {
+        Place::Nowhere => empty(),
+        Place::At(_, slot) => slot,
+    }
+}
+
+// The place's index in a row of so many slots; nowhere is past it.
+pub fn index_in(place: Place, slots: usize) -> usize
+    ensures { λ i. ⌜ i ≡ indexIn (placeOf place) slots ⌝ }
+{
+    match place {
+        Place::Nowhere => slots,
+        Place::At(i, _) => i.index(),
     }
 }

@@ -1,7 +1,7 @@
 -- The replay accepts exactly the proper sheets whose peak the slots can hold, and answers their conclusion, nodes, steps and peak; with
 -- fewer slots it refuses by 15 the first record that would have more nodes held than there are slots.
 use mathlib.Core.Path.{_≡_, refl, sym, ap, _∙_}
-use mathlib.Core.Bool.{Bool, true, false, cond}
+use mathlib.Core.Bool.{Bool, true, false}
 use mathlib.Core.List.{List, [], _∷_, _++_, append-nil}
 use Prim.Native.Nat.{ℕ, zero, suc, _+_, _-_, _*_, _/_, _≤_, _<_}
 use native.Mathlib.Nat.{le-of-suc-le-suc, le-refl, zero-add}
@@ -10,7 +10,7 @@ use native.Mathlib.Omega.{arith}
 use lib.ListN.{length, take}
 use lib.Seq.{take-length, append-snoc, ext-getD}
 use borrow.Author.Tests.{ltb-true, le-ltb}
-use Rattle.clause.specs.Clauses.{Literals, none}
+use Rattle.clause.specs.Clauses.{none}
 use Rattle.sheet.specs.declared.Reason.the-variants.{Full, NotHeld}
 use Rattle.sheet.specs.Editions.{Edition, narrow, recordBytes, replayRecords}
 use Rattle.sheet.specs.Reasons.{numberOf}
@@ -20,9 +20,9 @@ use Rattle.sheet.specs.Counts.{nodesOf, stepsOf, peakFrom, firstOver}
 use Rattle.sheet.specs.Proper.{recordIn, Held, ProperAfter, ReadsAs, Proper, conclusionOf}
 use Rattle.sheet.proofs.Fine.{Lengths}
 use Rattle.tally.specs.Tally.{counted}
-use Rattle.replay_spec.specs.Slots.{Slot, held, clauseHeld, room}
+use Rattle.replay_spec.specs.Slots.{Slot, holding, Place, nowhere, at, isPlace, slotIn, find, look, lastOf, held, clauseHeld, room}
 use Rattle.replay_spec.specs.Step.{State, after, Turn, goes, stops, turn}
-use Rattle.replay_spec.specs.Replay.{refused, accepted, ending, run, start, replay}
+use Rattle.replay_spec.specs.Replay.{Result, refused, accepted, byLast, ending, run, start, replay}
 use Rattle.replay_spec.proofs.Slots.{inUse-le, length-cleared}
 use Rattle.replay_spec.proofs.Steps.{turn-stops, turn-went, run-goes, run-stops, replay-runs, accepted-lengths, afterSteps, replay-ends, replay-stops}
 use Rattle.replay_spec.proofs.Runs.{first-over, Follows, follows-each}
@@ -30,30 +30,44 @@ use Rattle.replay_spec.proofs.Mirrors.{Mirrors, numbered, counts, peaks
 
 -- ---- the end
 
-ending-held : (k : ℕ) (s : State) → held (s .tally .next - 1) (s .slots) ≡ true
-    → ending k s ≡ accepted (clauseHeld (s .tally .next - 1) (s .slots)) (s .tally .next) (s .tally .steps) (s .tally .peak)
-unfolding ending
-ending-held k s h = rw h
+-- what an accepted replay of these records returns
+abbrev pub resultOf : List Record → Result
+resultOf rs = record { conclusion = conclusionOf rs; nodes = length (nodesOf rs); steps = stepsOf (nodesOf rs); peak = peakFrom 0 rs }
 
-held-ending : (k : ℕ) (s : State) (c : Literals) (nodes steps peak : ℕ) → ending k s ≡ accepted c nodes steps peak
-    → held (s .tally .next - 1) (s .slots) ≡ true
-unfolding ending
-held-ending k s c nodes steps peak = go (held (s .tally .next - 1) (s .slots))
+-- the last of n nodes, where it is held
+module _ (k n : ℕ) (s : State) (last : s .tally .next ≡ suc n) where
+  at-last : ending k s ≡ byLast k (s .tally) (find (holding n) (s .slots))
+  unfolding ending lastOf look
+  at-last = rw last
+
+  ending-held : held n (s .slots) ≡ true
+      → ending k s ≡ accepted (record { conclusion = clauseHeld n (s .slots); nodes = suc n; steps = s .tally .steps; peak = s .tally .peak })
+  unfolding held clauseHeld isPlace slotIn byLast
+  ending-held h = at-last ∙ by-place (find (holding n) (s .slots)) h
+    where
+      by-place : (p : Place) → isPlace p ≡ true
+          → byLast k (s .tally) p ≡ accepted (record { conclusion = slotIn p .clause; nodes = suc n; steps = s .tally .steps; peak = s .tally .peak })
+      by-place nowhere q = cc
+      by-place (at i x) q = rw last
+
+held-ending : (k : ℕ) (s : State) (r : Result) → ending k s ≡ accepted r → held (s .tally .next - 1) (s .slots) ≡ true
+unfolding ending byLast lastOf look held isPlace
+held-ending k s r = by-next (s .tally .next)
   where
-    go : (b : Bool)
-        → cond b (accepted (clauseHeld (s .tally .next - 1) (s .slots)) (s .tally .next) (s .tally .steps) (s .tally .peak)) (refused (numberOf NotHeld) k)
-        ≡ accepted c nodes steps peak
-        → b ≡ true
-    go true e = refl
-    go false e = cc
+    by-place : (p : Place) → byLast k (s .tally) p ≡ accepted r → isPlace p ≡ true
+    by-place nowhere e = cc
+    by-place (at i x) e = refl
 
-mirrored-ending : (k : ℕ) (rs : List Record) (s : State) → Mirrors rs s → Held rs (length (nodesOf rs) - 1)
-    → ending k s ≡ accepted (conclusionOf rs) (length (nodesOf rs)) (stepsOf (nodesOf rs)) (peakFrom 0 rs)
+    by-next : (n : ℕ) → byLast k (s .tally) (look (lastOf n) (s .slots)) ≡ accepted r → isPlace (find (holding (n - 1)) (s .slots)) ≡ true
+    by-next zero e = cc
+    by-next (suc n) e = let o : suc n - 1 ≡ n = omega arith in rw o (by-place (find (holding n) (s .slots)) e)
+
+mirrored-ending : (k : ℕ) (rs : List Record) (s : State) → Mirrors rs s → Held rs (length (nodesOf rs) - 1) → ending k s ≡ accepted (resultOf rs)
 mirrored-ending k rs s m h =
     let last = length (nodesOf rs) - 1 in
-    let is : s .tally .next - 1 ≡ last = ap (λ (n : ℕ). n - 1) (numbered m) in
-    ending-held k s (rw is (m .all last h))
-    ∙ (λ i. accepted ((ap (λ (n : ℕ). clauseHeld n (s .slots)) is ∙ m .clauses last h) i) (numbered m i) (stepped m i) (peaks m i))
+    let is : suc last ≡ length (nodesOf rs) = omega (arith, h .0) in
+    ending-held k last s (numbered m ∙ sym is) (m .all last h)
+    ∙ (λ i. accepted (record { conclusion = m .clauses last h i; nodes = is i; steps = stepped m i; peak = peaks m i }))
 
 -- ---- a proper sheet
 
@@ -62,7 +76,7 @@ module _ (e : Edition) (sheet rules : List ℕ) (slots : List Slot) (rs : List R
   lengths = (proper .read .size, proper .some, proper .few, proper .lines)
 
   pub proper-accepted : peakFrom 0 rs ≤ length slots
-      → replay e sheet rules slots .answer ≡ accepted (conclusionOf rs) (length (nodesOf rs)) (stepsOf (nodesOf rs)) (peakFrom 0 rs)
+      → replay e sheet rules slots .answer ≡ accepted (resultOf rs)
   proper-accepted peak =
       let y = so-far e sheet rules slots rs lengths (proper .read .each) (proper .each) (length rs) (le-refl (length rs)) (rw (take-length rs) peak) in
       let m = rw (take-length rs) at (y .mirrors) in
@@ -86,7 +100,7 @@ module _ (e : Edition) (sheet rules : List ℕ) (slots : List Slot) (rs : List R
 
 -- ---- what is accepted is proper
 
-module _ (e : Edition) (sheet rules : List ℕ) (c : Literals) (nodes steps peak : ℕ) where
+module _ (e : Edition) (sheet rules : List ℕ) (res : Result) where
   -- the records from number k on, m of them, that a run from s took after `done`
   record Rest (m k : ℕ) (done : List Record) (s : State) : Type 0 where
     rest : List Record
@@ -96,10 +110,10 @@ module _ (e : Edition) (sheet rules : List ℕ) (c : Literals) (nodes steps peak
     fits : peakFrom (s .tally .held) rest ≤ length (s .slots)
     ends : Held (done ++ rest) (length (nodesOf (done ++ rest)) - 1)
 
-  nothing-left : (k : ℕ) (done : List Record) (s : State) → Mirrors done s → ending k s ≡ accepted c nodes steps peak → Rest 0 k done s
+  nothing-left : (k : ℕ) (done : List Record) (s : State) → Mirrors done s → ending k s ≡ accepted res → Rest 0 k done s
   unfolding peakFrom
   nothing-left k done s m a =
-      let last : Held done (s .tally .next - 1) = m .only (s .tally .next - 1) (held-ending k s c nodes steps peak a) in
+      let last : Held done (s .tally .next - 1) = m .only (s .tally .next - 1) (held-ending k s res a) in
       record {
         rest = [];
         size = refl;
@@ -134,13 +148,13 @@ module _ (e : Edition) (sheet rules : List ℕ) (c : Literals) (nodes steps peak
           omega (arith, rw (add-one (s .tally .held)) at h)
       fits-on (drop n) room-left h = omega (arith, mirrors .used, inUse-le (s .slots))
 
-  accepted-rest : (m k : ℕ) (done : List Record) (s : State) → Mirrors done s → run e rules sheet m k s ≡ accepted c nodes steps peak → Rest m k done s
+  accepted-rest : (m k : ℕ) (done : List Record) (s : State) → Mirrors done s → run e rules sheet m k s ≡ accepted res → Rest m k done s
   unfolding run
   accepted-rest zero k done s mirrors a = nothing-left k done s mirrors a
   accepted-rest (suc m) k done s mirrors a = by-turn (turn e rules (recordAt e sheet k) s) refl (accepted-rest m (suc k))
     where
       by-turn : (t : Turn) → turn e rules (recordAt e sheet k) s ≡ t
-          → ((done′ : List Record) (s′ : State) → Mirrors done′ s′ → run e rules sheet m (suc k) s′ ≡ accepted c nodes steps peak → Rest m (suc k) done′ s′)
+          → ((done′ : List Record) (s′ : State) → Mirrors done′ s′ → run e rules sheet m (suc k) s′ ≡ accepted res → Rest m (suc k) done′ s′)
           → Rest (suc m) k done s
       by-turn (goes t) g more =
           let (r, q, fine, is) = turn-went e rules (recordAt e sheet k) s t g in
@@ -150,12 +164,12 @@ module _ (e : Edition) (sheet rules : List ℕ) (c : Literals) (nodes steps peak
           (rw is at (sym (run-goes e rules sheet m k s t g) ∙ a)))
       by-turn (stops why) g more = let y = run-stops e rules sheet m k s why g in let z : _≡_ {A = ℕ} 0 1 = cc in absurd (omega arith)
 
-  pub accepted-proper : (slots : List Slot) → replay e sheet rules slots .answer ≡ accepted c nodes steps peak
+  pub accepted-proper : (slots : List Slot) → replay e sheet rules slots .answer ≡ accepted res
       → (rs : List Record) × Proper e (replayRecords e) true rules sheet rs × (peakFrom 0 rs ≤ length slots)
   unfolding start
   accepted-proper slots a =
       let n = length sheet / recordBytes e in
-      let l = accepted-lengths e sheet rules slots c nodes steps peak a in
+      let l = accepted-lengths e sheet rules slots res a in
       let y = accepted-rest n 0 [] (start slots) (start-mirrors slots) (sym (replay-runs e sheet rules slots n l) ∙ a) in
       let rs = y .rest in
       let size = y .size in (
@@ -177,12 +191,12 @@ pub replay-accepts : (e : Edition) (sheet rules : List ℕ) (slots : List Slot)
     → ((rs : List Record)
     → Proper e (replayRecords e) true rules sheet rs
     → peakFrom 0 rs ≤ length slots
-    → replay e sheet rules slots .answer ≡ accepted (conclusionOf rs) (length (nodesOf rs)) (stepsOf (nodesOf rs)) (peakFrom 0 rs))
-    × ((c : Literals) (nodes steps peak : ℕ)
-    → replay e sheet rules slots .answer ≡ accepted c nodes steps peak
+    → replay e sheet rules slots .answer ≡ accepted (resultOf rs))
+    × ((r : Result)
+    → replay e sheet rules slots .answer ≡ accepted r
     → (rs : List Record) × Proper e (replayRecords e) true rules sheet rs × (peakFrom 0 rs ≤ length slots))
 replay-accepts e sheet rules slots =
-    (proper-accepted e sheet rules slots, λ c nodes steps peak. accepted-proper e sheet rules c nodes steps peak slots)
+    (proper-accepted e sheet rules slots, λ r. accepted-proper e sheet rules r slots)
 
 -- ---- the records that the bytes read as
 
@@ -195,20 +209,17 @@ reads-once e drops sheet rs rs′ a b =
     ext-getD (node (given 0 none)) rs rs′ size (λ k h. let p = a .each k h in let q = b .each k (omega arith) in cc)
 
 -- what an accepted replay says of them
-pub record Says (e : Edition) (sheet rules : List ℕ) (slots : List Slot) (rs : List Record) (c : Literals) (nodes steps peak : ℕ) : Type 0 where
+pub record Says (e : Edition) (sheet rules : List ℕ) (slots : List Slot) (rs : List Record) (r : Result) : Type 0 where
   pub proper : Proper e (replayRecords e) true rules sheet rs
   pub fits : peakFrom 0 rs ≤ length slots
-  pub concludes : c ≡ conclusionOf rs
-  pub counts : nodes ≡ length (nodesOf rs)
-  pub takes : steps ≡ stepsOf (nodesOf rs)
-  pub peaks : peak ≡ peakFrom 0 rs
+  pub result : r ≡ resultOf rs
 
-pub accepted-says : (e : Edition) (sheet rules : List ℕ) (slots : List Slot) (rs : List Record) (c : Literals) (nodes steps peak : ℕ)
-    → ReadsAs e true sheet rs → replay e sheet rules slots .answer ≡ accepted c nodes steps peak → Says e sheet rules slots rs c nodes steps peak
-accepted-says e sheet rules slots rs c nodes steps peak read a =
-    let (rs′, proper, fits) = accepted-proper e sheet rules c nodes steps peak slots a in
+pub accepted-says : (e : Edition) (sheet rules : List ℕ) (slots : List Slot) (rs : List Record) (r : Result)
+    → ReadsAs e true sheet rs → replay e sheet rules slots .answer ≡ accepted r → Says e sheet rules slots rs r
+accepted-says e sheet rules slots rs r read a =
+    let (rs′, proper, fits) = accepted-proper e sheet rules r slots a in
     let same = reads-once e true sheet rs′ rs (proper .read) read in
     let p = rw same at proper in
     let f = rw same at fits in
     let b = proper-accepted e sheet rules slots rs p f in
-    record { proper = p; fits = f; concludes = cc; counts = cc; takes = cc; peaks = cc }
+    record { proper = p; fits = f; result = cc }

@@ -18,17 +18,18 @@ use Rattle.sheet.specs.Editions.{Edition, replayRecords}
 use Rattle.sheet.specs.Reasons.{unless, andThen}
 use Rattle.sheet.specs.Records.{Node, given, step, Record, node, drop, clause, reads}
 use Rattle.sheet.specs.Fields.{reading, recordAt}
+use Rattle.sheet.specs.Checks.{checkEarlier}
 use Rattle.sheet.specs.Counts.{nodesOf, stepsOf, peakFrom}
 use Rattle.sheet.specs.Proper.{recordIn, clauseIn, Held, ProperAfter}
-use Rattle.sheet.proofs.Reasons.{unless-fine, fine-unless, andThen-fine, fine-andThen}
+use Rattle.sheet.proofs.Reasons.{unless-fine, fine-unless, andThen-fine}
 use Rattle.sheet.proofs.Fine.{Lengths, fine-earlier, step-fine, fine-step, given-fine, fine-given}
 use Rattle.tally.specs.Tally.{Tally, nothing, counted, tallied}
 use Rattle.tally.proofs.Tallied.{heldFrom, Counts, tallied-counts, tallied-more}
 use Rattle.replay_spec.specs.Slots.{Slot, held, clauseHeld, room}
-use Rattle.replay_spec.specs.Step.{State, names, namesIn, seenOf, checkNames, checkRoom, checkRecord, stored, after}
+use Rattle.replay_spec.specs.Step.{State, checkHeld, checkRoom, firstOf, checkRecord, stored, after}
 use Rattle.replay_spec.specs.Replay.{start}
 use Rattle.replay_spec.proofs.Slots.{either-way, length-hold, length-release, length-cleared, held-cleared, held-hold, clause-hold, held-hold-other, clause-hold-other, Once, once-cleared, once-hold, held-release, held-release-other, clause-release-other, once-release, inUse, room-when-fewer, inUse-cleared, inUse-hold, inUse-release}
-use Rattle.replay_spec.proofs.Steps.{judged, turn-goes, afterSteps, FirstTaken, taken-more}
+use Rattle.replay_spec.proofs.Steps.{turn-goes, afterSteps, FirstTaken, taken-more}
 use Rattle.replay_spec.proofs.Runs.{nodes-drop, count-node, peakFrom-append, clause-before, clause-new, held-still, held-before, last-dropped, DropsEarlier, drops-more, held-new}
 
 pub record Mirrors (done : List Record) (s : State) : Type 0 where
@@ -155,54 +156,58 @@ module _ (e : Edition) (rules : List ℕ) (done : List Record) (s : State) (m : 
   after-mirrors (node x) p q = node-mirrors done s m x q
   after-mirrors (drop n) p q = drop-mirrors done s m n p
 
-  fine-names : (l r : ℕ) → Held done l → Held done r → checkNames (s .tally .next) (names l r) (seenOf (s .slots) (names l r)) ≡ Fine
-  unfolding checkNames seenOf
-  fine-names l r p q =
-      fine-andThen _ _ (fine-earlier (s .tally .next) l (omega (arith, p .0, numbered m)))
-      (fine-andThen _ _ (fine-earlier (s .tally .next) r (omega (arith, q .0, numbered m)))
-      (fine-unless _ Dropped _ (m .all l p) (fine-unless _ Dropped Fine (m .all r q) refl)))
+  -- the checks of a named node
+  earlier-fine : (n : ℕ) → Held done n → checkEarlier (s .tally .next) n ≡ Fine
+  earlier-fine n h = fine-earlier (s .tally .next) n (omega (arith, h .0, numbered m))
 
-  names-fine : (l r : ℕ) → checkNames (s .tally .next) (names l r) (seenOf (s .slots) (names l r)) ≡ Fine → Held done l × Held done r
-  unfolding checkNames seenOf
-  names-fine l r v =
-      let shown = andThen-fine _ _ (andThen-fine _ _ v .1) .1 in
-      let left = unless-fine _ Dropped _ shown in
-      (m .only l (left .0), m .only r (unless-fine _ Dropped Fine (left .1) .0))
+  held-fine : (n : ℕ) → Held done n → checkHeld (s .slots) n ≡ Fine
+  unfolding checkHeld
+  held-fine n h = fine-unless _ Dropped Fine (m .all n h) refl
+
+  fine-held : (n : ℕ) → checkHeld (s .slots) n ≡ Fine → Held done n
+  unfolding checkHeld
+  fine-held n v = m .only n (unless-fine _ Dropped Fine v .0)
 
   -- of a proper node only 15 is left to check
-  proper-judged : (x : Node) → ProperAfter e rules done (node x) → judged e rules s (node x) ≡ checkRoom (seenOf (s .slots) (namesIn (node x)))
-  unfolding checkRecord seenOf namesIn andThen
-  proper-judged (given line c) p = rw (fine-given e rules line c (p .0) (p .1))
-  proper-judged (step p l r c) (left, right, plus, minus, result) =
+  proper-checked : (x : Node) → ProperAfter e rules done (node x) → checkRecord e rules s (node x) ≡ andThen (checkRoom (s .slots)) Fine
+  unfolding checkRecord firstOf andThen
+  proper-checked (given line c) p = rw (fine-given e rules line c (p .0) (p .1))
+  proper-checked (step p l r c) (left, right, plus, minus, result) =
       rw (
-        fine-names l r left right,
+        earlier-fine l left,
+        earlier-fine r right,
+        held-fine l left,
+        held-fine r right,
         m .clauses l left,
         m .clauses r right,
         fine-step p (clauseIn done l) (clauseIn done r) c plus minus result,
       )
 
-  pub proper-fine : (r : Record) → ProperAfter e rules done r → Roomy r (s .slots) → judged e rules s r ≡ Fine
-  unfolding checkRoom seenOf unless checkRecord namesIn
-  proper-fine (node x) p q = proper-judged x p ∙ rw q
-  proper-fine (drop n) p q = fine-names n n p p
+  pub proper-fine : (r : Record) → ProperAfter e rules done r → Roomy r (s .slots) → checkRecord e rules s r ≡ Fine
+  unfolding checkRoom unless checkRecord firstOf andThen
+  proper-fine (node x) p q = proper-checked x p ∙ rw q
+  proper-fine (drop n) p q = rw (earlier-fine n p, held-fine n p)
 
-  pub proper-full : (x : Node) → ProperAfter e rules done (node x) → room (s .slots) ≡ false → judged e rules s (node x) ≡ Refused Full
-  unfolding checkRoom seenOf unless
-  proper-full x p q = proper-judged x p ∙ rw q
+  pub proper-full : (x : Node) → ProperAfter e rules done (node x) → room (s .slots) ≡ false → checkRecord e rules s (node x) ≡ Refused Full
+  unfolding checkRoom unless andThen
+  proper-full x p q = proper-checked x p ∙ rw q
 
   -- what passes is proper, and has room
-  pub fine-proper : (r : Record) → judged e rules s r ≡ Fine → ProperAfter e rules done r × Roomy r (s .slots)
-  unfolding checkRecord checkRoom namesIn seenOf
+  pub fine-proper : (r : Record) → checkRecord e rules s r ≡ Fine → ProperAfter e rules done r × Roomy r (s .slots)
+  unfolding checkRecord firstOf checkRoom
   fine-proper (node (given line c)) v =
-      let parts = andThen-fine _ _ v in (given-fine e rules line c (parts .0), unless-fine _ Full Fine (parts .1) .0)
+      let (line-fine, rest) = andThen-fine _ _ v in
+      (given-fine e rules line c line-fine, unless-fine _ Full Fine (andThen-fine _ _ rest .0) .0)
   fine-proper (node (step p l r c)) v =
-      let named = andThen-fine _ _ v in
-      let resolved = andThen-fine _ _ (named .1) in
-      let (left, right) = names-fine l r (named .0) in
+      let held-on = andThen-fine _ _ (andThen-fine _ _ v .1) .1 in
+      let left = fine-held l (andThen-fine _ _ held-on .0) in
+      let after-left = andThen-fine _ _ held-on .1 in
+      let right = fine-held r (andThen-fine _ _ after-left .0) in
+      let (resolved, room-left) = andThen-fine _ _ (andThen-fine _ _ after-left .1) in
       let (plus, minus, result) =
-      rw (m .clauses l left, m .clauses r right) at (step-fine p (clauseHeld l (s .slots)) (clauseHeld r (s .slots)) c (resolved .0)) in
-      ((left, right, plus, minus, result), unless-fine _ Full Fine (resolved .1) .0)
-  fine-proper (drop n) v = (names-fine n n v .0, tt)
+      rw (m .clauses l left, m .clauses r right) at (step-fine p (clauseHeld l (s .slots)) (clauseHeld r (s .slots)) c resolved) in
+      ((left, right, plus, minus, result), unless-fine _ Full Fine (andThen-fine _ _ room-left .0) .0)
+  fine-proper (drop n) v = (fine-held n (andThen-fine _ _ (andThen-fine _ _ v .1) .0), tt)
 
 -- ---- after k records
 

@@ -13,17 +13,17 @@ use Rattle.sheet.specs.declared.Reason.the-variants.{Dropped}
 use Rattle.sheet.specs.declared.Verdict.{Verdict}
 use Rattle.sheet.specs.declared.Verdict.the-variants.{Fine, Refused}
 use Rattle.sheet.specs.Editions.{Edition, recordBytes, replayRecords}
-use Rattle.sheet.specs.Records.{Record, node, drop, clause, Reading, reads, unread}
+use Rattle.sheet.specs.Records.{given, step, Record, node, drop, clause, Reading, reads, unread}
 use Rattle.sheet.specs.Fields.{reading, recordAt}
 use Rattle.sheet.specs.Checks.{checkLengths}
 use Rattle.sheet.proofs.Reasons.{unless-fine, andThen-fine}
 use Rattle.sheet.proofs.Fine.{lengths-fine}
 use Rattle.tally.specs.Tally.{counted}
-use Rattle.replay_spec.specs.Slots.{Slot, empty, held, room, cleared}
-use Rattle.replay_spec.specs.Step.{State, state, Names, namesIn, Seen, seenOf, checkNames, checkRecord, stored, after, Turn, goes, stops, byReading, byVerdict, turn}
-use Rattle.replay_spec.specs.Replay.{ending, run, start, byLengths, replay}
-use Rattle.replay_spec.proofs.Slots.{inUse, room-when-fewer, inUse-cleared, inUse-hold, inUse-release, length-cleared, held-more, clause-more, cleared-append, room-more, hold-more, release-more}
-use Rattle.replay_spec.proofs.Steps.{judged, turn-goes, turn-went, run-goes, run-stops, Within, within-counted}
+use Rattle.replay_spec.specs.Slots.{Slot, empty, look, lastOf, held, room, cleared}
+use Rattle.replay_spec.specs.Step.{State, state, checkHeld, checkRoom, firstOf, checkRecord, stored, after, Turn, goes, stops, byReading, byVerdict, turn}
+use Rattle.replay_spec.specs.Replay.{byLast, ending, run, start, byLengths, replay}
+use Rattle.replay_spec.proofs.Slots.{inUse, room-when-fewer, inUse-cleared, inUse-hold, inUse-release, length-cleared, find-more, held-more, clause-more, cleared-append, room-more, hold-more, release-more}
+use Rattle.replay_spec.proofs.Steps.{turn-goes, turn-went, run-goes, run-stops, Within, within-counted}
 use Rattle.replay_spec.proofs.Mirrors.{length-after}
 
 module _ (others : List Slot) where
@@ -33,33 +33,39 @@ module _ (others : List Slot) where
 
   -- ---- a state with room shows the same, and takes a record the same way
 
-  seen-wider : (row : List Slot) (ns : Names) → room row ≡ true → seenOf (row ++ cleared others) ns ≡ seenOf row ns
-  unfolding seenOf
-  seen-wider row ns q =
-      rw (
-        held-more (ns .left) row others,
-        clause-more (ns .left) row others,
-        held-more (ns .right) row others,
-        clause-more (ns .right) row others,
-        room-more row (cleared others) q,
-        q,
-      )
+  held-wider : (row : List Slot) (n : ℕ) → checkHeld (row ++ cleared others) n ≡ checkHeld row n
+  unfolding checkHeld
+  held-wider row n = rw (held-more n row others)
+
+  room-wider : (row : List Slot) → room row ≡ true → checkRoom (row ++ cleared others) ≡ checkRoom row
+  unfolding checkRoom
+  room-wider row q = rw (room-more row (cleared others) q, q)
 
   module _ (e : Edition) (rules : List ℕ) (s : State) (q : room (s .slots) ≡ true) where
-    judged-wider : (r : Record) → judged e rules (wider s) r ≡ judged e rules s r
-    judged-wider r = ap (λ (x : Seen). checkRecord e rules (s .tally .next) x r) (seen-wider (s .slots) (namesIn r) q)
+    checked-wider : (r : Record) → checkRecord e rules (wider s) r ≡ checkRecord e rules s r
+    unfolding checkRecord
+    checked-wider (node (given line c)) = rw (room-wider (s .slots) q)
+    checked-wider (node (step p l r c)) =
+        rw (
+          held-wider (s .slots) l,
+          held-wider (s .slots) r,
+          clause-more l (s .slots) others,
+          clause-more r (s .slots) others,
+          room-wider (s .slots) q,
+        )
+    checked-wider (drop n) = rw (held-wider (s .slots) n)
 
     -- a drop that is fine is of a node that is held
-    drop-held : (n : ℕ) → judged e rules s (drop n) ≡ Fine → held n (s .slots) ≡ true
-    unfolding checkRecord checkNames seenOf namesIn
-    drop-held n v = unless-fine _ Dropped _ (andThen-fine _ _ (andThen-fine _ _ v .1) .1) .0
+    drop-held : (n : ℕ) → checkRecord e rules s (drop n) ≡ Fine → held n (s .slots) ≡ true
+    unfolding checkRecord firstOf checkHeld
+    drop-held n v = unless-fine _ Dropped _ (andThen-fine _ _ (andThen-fine _ _ v .1) .0) .0
 
-    after-wider : (r : Record) → judged e rules s r ≡ Fine → after (wider s) r ≡ wider (after s r)
+    after-wider : (r : Record) → checkRecord e rules s r ≡ Fine → after (wider s) r ≡ wider (after s r)
     unfolding after stored
     after-wider (node x) v = ap (state (counted (s .tally) (node x))) (hold-more (s .tally .next) (clause x) (s .slots) (cleared others) q)
     after-wider (drop n) v = ap (state (counted (s .tally) (drop n))) (release-more n (s .slots) (cleared others) (drop-held n v))
 
-    used-then : inUse (s .slots) ≡ s .tally .held → (r : Record) → judged e rules s r ≡ Fine → inUse (after s r .slots) ≡ after s r .tally .held
+    used-then : inUse (s .slots) ≡ s .tally .held → (r : Record) → checkRecord e rules s r ≡ Fine → inUse (after s r .slots) ≡ after s r .tally .held
     unfolding after stored counted
     used-then u (node x) v = omega (arith, inUse-hold (s .tally .next) (clause x) (s .slots) q, u)
     used-then u (drop n) v = omega (arith, inUse-release n (s .slots) (drop-held n v), u)
@@ -79,12 +85,16 @@ module _ (others : List Slot) where
         by-verdict r (Refused x) h = h
 
         by-reading : (w : Reading) → byReading e rules s w ≡ stops why → byReading e rules (wider s) w ≡ stops why
-        by-reading (reads r) h = rw (judged-wider r) (by-verdict r (judged e rules s r) h)
+        by-reading (reads r) h = rw (checked-wider r) (by-verdict r (checkRecord e rules s r) h)
         by-reading (unread x) h = h
 
   ending-wider : (k : ℕ) (s : State) → ending k (wider s) ≡ ending k s
-  unfolding ending
-  ending-wider k s = rw (held-more, clause-more)
+  unfolding ending look lastOf
+  ending-wider k s = by-last (s .tally .next)
+    where
+      by-last : (n : ℕ) → byLast k (s .tally) (look (lastOf n) (s .slots ++ cleared others)) ≡ byLast k (s .tally) (look (lastOf n) (s .slots))
+      by-last zero = refl
+      by-last (suc n) = ap (byLast k (s .tally)) (find-more n (s .slots) others)
 
   -- ---- a run, in a state that counts its slots in use
 
@@ -106,7 +116,7 @@ module _ (others : List Slot) where
             → run e rules sheet (suc m) k (wider s) ≡ run e rules sheet (suc m) k s
         by-turn rest (goes t) g =
             let (r, read, fine, is) = turn-went e rules (recordAt e sheet k) s t g in
-            run-goes e rules sheet m k (wider s) (after (wider s) r) (turn-goes e rules (recordAt e sheet k) (wider s) r read (judged-wider e rules s roomy r ∙ fine))
+            run-goes e rules sheet m k (wider s) (after (wider s) r) (turn-goes e rules (recordAt e sheet k) (wider s) r read (checked-wider e rules s roomy r ∙ fine))
             ∙ ap (run e rules sheet m (suc k)) (after-wider e rules s roomy r fine)
             ∙ rest (after s r) (omega (arith, length-after s r)) (within-then e rules s roomy k w r) (used-then e rules s roomy u r fine)
             ∙ ap (run e rules sheet m (suc k)) (sym is)

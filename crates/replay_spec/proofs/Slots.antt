@@ -11,45 +11,66 @@ use lib.ListN.{length, getD, replicate, length-set, length-append, length-replic
 use borrow.Author.Tests.{lt-ltb, eq-eqb, ne-eqb, eqb-true}
 use Rattle.base.proofs.Lists.{cond-both}
 use Rattle.clause.specs.Clauses.{Literals}
-use Rattle.replay_spec.specs.Slots.{Slot, slot, empty, free, holding, first, held, clauseHeld, room, hold, release, cleared}
+use Rattle.replay_spec.specs.Slots.{Slot, slot, empty, free, holding, Place, nowhere, at, isPlace, slotIn, into, put, later, find, held, clauseHeld, room, hold, release, cleared}
 
 pub either-way : {P : Type 0} (b : Bool) → (b ≡ true → P) → (b ≡ false → P) → P
 either-way true yes′ no′ = yes′ refl
 either-way false yes′ no′ = no′ refl
 
--- ---- the first that passes a test
+-- ---- a look through the row
 
-module _ {A : Type 0} (test : A → Bool) where
-  first-here : (x : A) (row : List A) → test x ≡ true → first test (x ∷ row) ≡ 0
-  unfolding first
-  first-here x row e = rw e
+isPlace-later : (p : Place) → isPlace (later p) ≡ isPlace p
+unfolding isPlace later
+isPlace-later nowhere = refl
+isPlace-later (at i s) = refl
 
-  first-later : (x : A) (row : List A) → test x ≡ false → first test (x ∷ row) ≡ suc (first test row)
-  unfolding first
-  first-later x row e = rw e
+slotIn-later : (p : Place) → slotIn (later p) ≡ slotIn p
+unfolding slotIn later
+slotIn-later nowhere = refl
+slotIn-later (at i s) = refl
 
-  -- where a search ends: at i, or with none
-  pub first-at : (row : List A) (d : A) (i : ℕ)
-      → i < length row → test (getD row i d) ≡ true → ((j : ℕ) → j < i → test (getD row j d) ≡ false) → first test row ≡ i
-  first-at [] d i h e before = absurd (not-suc-le-zero h)
-  first-at (x ∷ row) d zero h e before = first-here x row e
-  first-at (x ∷ row) d (suc i) h e before =
-      first-later x row (before 0 (zero-lt-suc i))
-      ∙ ap suc (first-at row d i (le-of-suc-le-suc h) e (λ j l. before (suc j) (suc-le-suc l)))
+put-later : (s x : Slot) (row : List Slot) (p : Place) → put (into s (later p)) (x ∷ row) ≡ x ∷ put (into s p) row
+unfolding put into later
+put-later s x row nowhere = refl
+put-later s x row (at i y) = refl
 
-  pub first-none : (row : List A) (d : A) → ((j : ℕ) → j < length row → test (getD row j d) ≡ false) → first test row ≡ length row
-  unfolding first
-  first-none [] d fails = refl
-  first-none (x ∷ row) d fails =
-      first-later x row (fails 0 (zero-lt-suc (length row))) ∙ ap suc (first-none row d (λ j l. fails (suc j) (suc-le-suc l)))
+length-put : (p : Place) (row : List Slot) → length (put p row) ≡ length row
+unfolding put
+length-put nowhere row = refl
+length-put (at i s) row = length-set row i s
 
-  found-cons : (x : A) (row : List A) → ltb (first test (x ∷ row)) (suc (length row)) ≡ (test x || ltb (first test row) (length row))
-  unfolding first
-  found-cons x row = go (test x)
+module _ (test : Slot → Bool) where
+  find-here : (x : Slot) (row : List Slot) → test x ≡ true → find test (x ∷ row) ≡ at 0 x
+  unfolding find
+  find-here x row e = rw e
+
+  find-later : (x : Slot) (row : List Slot) → test x ≡ false → find test (x ∷ row) ≡ later (find test row)
+  unfolding find
+  find-later x row e = rw e
+
+  -- where it ends: at i, or nowhere
+  pub find-at : (row : List Slot) (i : ℕ) (s : Slot)
+      → i < length row → getD row i empty ≡ s → test s ≡ true → ((j : ℕ) → j < i → test (getD row j empty) ≡ false) → find test row ≡ at i s
+  unfolding later
+  find-at [] i s h is e before = absurd (not-suc-le-zero h)
+  find-at (x ∷ row) zero s h is e before = find-here x row (rw is e) ∙ ap (at 0) is
+  find-at (x ∷ row) (suc i) s h is e before =
+      find-later x row (before 0 (zero-lt-suc i))
+      ∙ ap later (find-at row i s (le-of-suc-le-suc h) is e (λ j l. before (suc j) (suc-le-suc l)))
+
+  pub find-none : (row : List Slot) → ((j : ℕ) → j < length row → test (getD row j empty) ≡ false) → find test row ≡ nowhere
+  unfolding find later
+  find-none [] fails = refl
+  find-none (x ∷ row) fails =
+      find-later x row (fails 0 (zero-lt-suc (length row))) ∙ ap later (find-none row (λ j l. fails (suc j) (suc-le-suc l)))
+
+  place-cons : (x : Slot) (row : List Slot) → isPlace (find test (x ∷ row)) ≡ (test x || isPlace (find test row))
+  unfolding find isPlace
+  place-cons x row = go (test x)
     where
-      go : (b : Bool) → ltb (cond b 0 (suc (first test row))) (suc (length row)) ≡ (b || ltb (first test row) (length row))
-      go true = lt-ltb 0 (suc (length row)) (zero-lt-suc (length row))
-      go false = leb·suc-suc (suc (first test row)) (length row)
+      go : (b : Bool) → isPlace (cond b (at 0 x) (later (find test row))) ≡ (b || isPlace (find test row))
+      go true = refl
+      go false = isPlace-later (find test row)
 
 -- ---- a slot and the row after it
 
@@ -75,54 +96,58 @@ holding-node n x e = go (eqb (x .used) 0) e
 
 held-cons : (n : ℕ) (x : Slot) (row : List Slot) → held n (x ∷ row) ≡ (holding n x || held n row)
 unfolding held
-held-cons n x row = found-cons (holding n) x row
+held-cons n x row = place-cons (holding n) x row
 
 room-cons : (x : Slot) (row : List Slot) → room (x ∷ row) ≡ (free x || room row)
 unfolding room
-room-cons x row = found-cons free x row
+room-cons x row = place-cons free x row
 
 clause-cons : (n : ℕ) (x : Slot) (row : List Slot) → clauseHeld n (x ∷ row) ≡ cond (holding n x) (x .clause) (clauseHeld n row)
-unfolding clauseHeld first
+unfolding clauseHeld find slotIn
 clause-cons n x row = go (holding n x)
   where
-    go : (b : Bool) → getD (x ∷ row) (cond b 0 (suc (first (holding n) row))) empty .clause ≡ cond b (x .clause) (getD row (first (holding n) row) empty .clause)
+    go : (b : Bool) → slotIn (cond b (at 0 x) (later (find (holding n) row))) .clause ≡ cond b (x .clause) (slotIn (find (holding n) row) .clause)
     go true = refl
-    go false = refl
+    go false = ap (λ (s : Slot). s .clause) (slotIn-later (find (holding n) row))
 
 hold-here : (n : ℕ) (c : Literals) (x : Slot) (row : List Slot) → free x ≡ true → hold n c (x ∷ row) ≡ slot 1 n c ∷ row
-unfolding hold
-hold-here n c x row e = rw (first-here free x row e)
+unfolding hold put into
+hold-here n c x row e = rw (find-here free x row e)
 
 hold-later : (n : ℕ) (c : Literals) (x : Slot) (row : List Slot) → free x ≡ false → hold n c (x ∷ row) ≡ x ∷ hold n c row
 unfolding hold
-hold-later n c x row e = rw (first-later free x row e)
+hold-later n c x row e = rw (find-later free x row e) (put-later (slot 1 n c) x row (find free row))
 
 release-here : (n : ℕ) (x : Slot) (row : List Slot) → holding n x ≡ true → release n (x ∷ row) ≡ empty ∷ row
-unfolding release
-release-here n x row e = rw (first-here (holding n) x row e)
+unfolding release put into
+release-here n x row e = rw (find-here (holding n) x row e)
 
 release-later : (n : ℕ) (x : Slot) (row : List Slot) → holding n x ≡ false → release n (x ∷ row) ≡ x ∷ release n row
 unfolding release
-release-later n x row e = rw (first-later (holding n) x row e)
+release-later n x row e = rw (find-later (holding n) x row e) (put-later empty x row (find (holding n) row))
 
 -- ---- lengths, and a cleared row
 
 pub length-hold : (n : ℕ) (c : Literals) (row : List Slot) → length (hold n c row) ≡ length row
 unfolding hold
-length-hold n c row = length-set row (first free row) (slot 1 n c)
+length-hold n c row = length-put (into (slot 1 n c) (find free row)) row
 
 pub length-release : (n : ℕ) (row : List Slot) → length (release n row) ≡ length row
 unfolding release
-length-release n row = length-set row (first (holding n) row) empty
+length-release n row = length-put (into empty (find (holding n) row)) row
 
 pub length-cleared : (row : List Slot) → length (cleared row) ≡ length row
 unfolding cleared
 length-cleared row = length-replicate (length row) empty
 
+find-cleared : (n : ℕ) (row : List Slot) → find (holding n) (cleared row) ≡ nowhere
+unfolding cleared find later
+find-cleared n [] = refl
+find-cleared n (x ∷ row) = find-later (holding n) empty (cleared row) (holding-empty n) ∙ ap later (find-cleared n row)
+
 pub held-cleared : (n : ℕ) (row : List Slot) → held n (cleared row) ≡ false
-unfolding cleared held first
-held-cleared n [] = refl
-held-cleared n (x ∷ row) = held-cons n empty (cleared row) ∙ ap (λ (b : Bool). b || held n (cleared row)) (holding-empty n) ∙ held-cleared n row
+unfolding held isPlace
+held-cleared n row = ap isPlace (find-cleared n row)
 
 -- ---- what is held once a node takes the lowest free slot
 
@@ -146,7 +171,7 @@ holding-other j n c d = ne-eqb n j (λ e. d (sym e))
 
 module _ (n : ℕ) (c : Literals) where
   pub held-hold : (row : List Slot) → room row ≡ true → held n (hold n c row) ≡ true
-  unfolding room first
+  unfolding room find isPlace
   held-hold [] e = absurd (true≢false (sym e))
   held-hold (x ∷ row) e =
       either-way (free x)
@@ -154,7 +179,7 @@ module _ (n : ℕ) (c : Literals) where
       (λ q. rw (hold-later n c x row q, held-cons, held-hold row (room-later x row q e)) (or-true (holding n x)))
 
   pub clause-hold : (row : List Slot) → room row ≡ true → held n row ≡ false → clauseHeld n (hold n c row) ≡ c
-  unfolding room first
+  unfolding room find isPlace
   clause-hold [] e h = absurd (true≢false (sym e))
   clause-hold (x ∷ row) e h =
       let (here, later) = not-here n x row h in
@@ -164,7 +189,7 @@ module _ (n : ℕ) (c : Literals) where
 
   module _ (j : ℕ) (other : j ≢ n) where
     pub held-hold-other : (row : List Slot) → held j (hold n c row) ≡ held j row
-    unfolding hold
+    unfolding hold find put into
     held-hold-other [] = refl
     held-hold-other (x ∷ row) =
         either-way (free x)
@@ -172,7 +197,7 @@ module _ (n : ℕ) (c : Literals) where
         (λ q. rw (hold-later n c x row q, held-cons j x (hold n c row), held-hold-other row) (sym (held-cons j x row)))
 
     pub clause-hold-other : (row : List Slot) → clauseHeld j (hold n c row) ≡ clauseHeld j row
-    unfolding hold
+    unfolding hold find put into
     clause-hold-other [] = refl
     clause-hold-other (x ∷ row) =
         either-way (free x)
@@ -191,7 +216,7 @@ once-cleared [] = tt
 once-cleared (x ∷ row) = (λ e. held-cleared 0 row, once-cleared row)
 
 pub once-hold : (n : ℕ) (c : Literals) (row : List Slot) → held n row ≡ false → Once row → Once (hold n c row)
-unfolding hold
+unfolding hold find put into
 once-hold n c [] h o = tt
 once-hold n c (x ∷ row) h o =
     let (here, later) = not-here n x row h in
@@ -213,7 +238,7 @@ module _ (n : ℕ) where
         go false e = refl
 
     pub held-release-other : (row : List Slot) → held j (release n row) ≡ held j row
-    unfolding release
+    unfolding release find put into
     held-release-other [] = refl
     held-release-other (x ∷ row) =
         either-way (holding n x)
@@ -221,7 +246,7 @@ module _ (n : ℕ) where
         (λ q. rw (release-later n x row q, held-cons j x (release n row), held-release-other row) (sym (held-cons j x row)))
 
     pub clause-release-other : (row : List Slot) → clauseHeld j (release n row) ≡ clauseHeld j row
-    unfolding release
+    unfolding release find put into
     clause-release-other [] = refl
     clause-release-other (x ∷ row) =
         either-way (holding n x)
@@ -236,7 +261,7 @@ module _ (n : ℕ) where
       go false e = refl
 
   pub held-release : (row : List Slot) → Once row → held n (release n row) ≡ false
-  unfolding release held first
+  unfolding release held find isPlace put into
   held-release [] o = refl
   held-release (x ∷ row) o =
       either-way (holding n x)
@@ -244,7 +269,7 @@ module _ (n : ℕ) where
       (λ q. rw (release-later n x row q, held-cons, q) (held-release row (o .1)))
 
   pub once-release : (row : List Slot) → Once row → Once (release n row)
-  unfolding release free
+  unfolding release free find put into
   once-release [] o = tt
   once-release (x ∷ row) o =
       either-way (holding n x)
@@ -270,7 +295,7 @@ inUse-le (x ∷ row) = let h = inUse-le row in cond-both (λ (k : ℕ). k ≤ su
 
 -- "15 is given only when as many nodes are held as there are slots"
 pub room-when-fewer : (row : List Slot) → room row ≡ ltb (inUse row) (length row)
-unfolding inUse room first
+unfolding inUse room find isPlace
 room-when-fewer [] = refl
 room-when-fewer (x ∷ row) = room-cons x row ∙ go (free x) (room-when-fewer row)
   where
@@ -284,7 +309,7 @@ inUse-cleared [] = refl
 inUse-cleared (x ∷ row) = inUse-cleared row
 
 pub inUse-hold : (n : ℕ) (c : Literals) (row : List Slot) → room row ≡ true → inUse (hold n c row) ≡ suc (inUse row)
-unfolding inUse room first free
+unfolding inUse room find isPlace free
 inUse-hold n c [] e = absurd (true≢false (sym e))
 inUse-hold n c (x ∷ row) e =
     either-way (free x)
@@ -292,7 +317,7 @@ inUse-hold n c (x ∷ row) e =
     (λ q. rw (hold-later n c x row q, q) (ap suc (inUse-hold n c row (room-later x row q e))))
 
 pub inUse-release : (n : ℕ) (row : List Slot) → held n row ≡ true → suc (inUse (release n row)) ≡ inUse row
-unfolding inUse held first free
+unfolding inUse held find isPlace free
 inUse-release n [] e = absurd (true≢false (sym e))
 inUse-release n (x ∷ row) e =
     either-way (holding n x)
@@ -308,21 +333,21 @@ inUse-release n (x ∷ row) e =
 
 -- what is held in it, where the others are all free
 held-nil : (n : ℕ) → held n [] ≡ false
-unfolding held first
+unfolding held find isPlace
 held-nil n = refl
 
-clause-cleared : (n : ℕ) (row : List Slot) → clauseHeld n (cleared row) ≡ clauseHeld n []
-unfolding cleared clauseHeld
-clause-cleared n [] = refl
-clause-cleared n (x ∷ row) = clause-cons n empty (cleared row) ∙ rw (holding-empty n) (clause-cleared n row)
+pub find-more : (n : ℕ) (row others : List Slot) → find (holding n) (row ++ cleared others) ≡ find (holding n) row
+unfolding find
+find-more n [] others = find-cleared n others
+find-more n (x ∷ row) others = ap (λ (p : Place). cond (holding n x) (at 0 x) (later p)) (find-more n row others)
 
 pub held-more : (n : ℕ) (row others : List Slot) → held n (row ++ cleared others) ≡ held n row
-held-more n [] others = held-cleared n others ∙ sym (held-nil n)
-held-more n (x ∷ row) others = rw (held-cons n x (row ++ cleared others), held-more n row others) (sym (held-cons n x row))
+unfolding held
+held-more n row others = ap isPlace (find-more n row others)
 
 pub clause-more : (n : ℕ) (row others : List Slot) → clauseHeld n (row ++ cleared others) ≡ clauseHeld n row
-clause-more n [] others = clause-cleared n others
-clause-more n (x ∷ row) others = rw (clause-cons n x (row ++ cleared others), clause-more n row others) (sym (clause-cons n x row))
+unfolding clauseHeld
+clause-more n row others = ap (λ (p : Place). slotIn p .clause) (find-more n row others)
 
 pub cleared-append : (xs ys : List Slot) → cleared (xs ++ ys) ≡ cleared xs ++ cleared ys
 unfolding cleared
@@ -330,7 +355,7 @@ cleared-append xs ys = ap (λ (k : ℕ). replicate k empty) (length-append xs ys
 
 -- where it has room, a node takes the same slot; and so has a drop the same, of a node that is held in it
 pub room-more : (row others : List Slot) → room row ≡ true → room (row ++ others) ≡ true
-unfolding room first
+unfolding room find isPlace
 room-more [] others e = absurd (true≢false (sym e))
 room-more (x ∷ row) others e =
     either-way (free x)
@@ -338,7 +363,7 @@ room-more (x ∷ row) others e =
     (λ q. rw (room-cons x (row ++ others), q) (room-more row others (room-later x row q e)))
 
 pub hold-more : (n : ℕ) (c : Literals) (row others : List Slot) → room row ≡ true → hold n c (row ++ others) ≡ hold n c row ++ others
-unfolding room first
+unfolding room find isPlace
 hold-more n c [] others e = absurd (true≢false (sym e))
 hold-more n c (x ∷ row) others e =
     either-way (free x)

@@ -18,7 +18,7 @@ use Rattle.sheet.specs.Fields.{ruleLine}
 use Rattle.sheet.specs.Counts.{nodesOf}
 use Rattle.sheet.specs.Proper.{recordIn, clauseIn, conclusionOf, ProperAfter, ReadsAs, Proper}
 use Rattle.replay_spec.specs.Slots.{Slot}
-use Rattle.replay_spec.specs.Replay.{accepted, replay}
+use Rattle.replay_spec.specs.Replay.{Result, accepted, replay}
 use Rattle.replay_spec.proofs.Runs.{nodes-drop, count-node, clause-before, clause-new, Follows, each-follows}
 use Rattle.replay_spec.proofs.Accepts.{accepted-says}
 
@@ -67,13 +67,13 @@ module _ (e : Edition) (rules : List ℕ) (m : Setting) where
   proper-true most drops sheet rs proper used =
       follows-true rs (each-follows e rules rs [] (proper .each)) used (length (nodesOf rs) - 1) (proper .ends .0)
 
-module _ (e : Edition) (sheet rules : List ℕ) (slots : List Slot) (rs : List Record) (c : Literals) (nodes steps peak : ℕ)
-    (read : ReadsAs e true sheet rs) (a : replay e sheet rules slots .answer ≡ accepted c nodes steps peak) (m : Setting) where
-  pub replay-sound : LinesTrue e rules m rs → Satisfies m c
+module _ (e : Edition) (sheet rules : List ℕ) (slots : List Slot) (rs : List Record) (r : Result)
+    (read : ReadsAs e true sheet rs) (a : replay e sheet rules slots .answer ≡ accepted r) (m : Setting) where
+  pub replay-sound : LinesTrue e rules m rs → Satisfies m (r .conclusion)
   replay-sound used =
-      let y = accepted-says e sheet rules slots rs c nodes steps peak read a in
-      rw (y .concludes) (proper-true e rules m (replayRecords e) true sheet rs (y .proper) used)
+      let y = accepted-says e sheet rules slots rs r read a in
+      rw (ap (λ (x : Result). x .conclusion) (y .result)) (proper-true e rules m (replayRecords e) true sheet rs (y .proper) used)
 
   -- an empty conclusion means that the lines used cannot all hold
-  pub replay-empty : c ≡ none → LinesTrue e rules m rs → ⊥
+  pub replay-empty : r .conclusion ≡ none → LinesTrue e rules m rs → ⊥
   replay-empty q used = let (x, holds, true-in) = (rw q at (replay-sound used)) in true≢false (sym holds ∙ holds-none x)

@@ -1,6 +1,6 @@
 -- The whole replay is the public step, again and again: what a turn comes to, why every state of a replay fits the step, and that the
 -- replay goes on from the state after the steps that were taken.
-use mathlib.Core.Path.{_≡_, refl, sym, ap, ap₂, _∙_}
+use mathlib.Core.Path.{_≡_, refl, sym, ap, _∙_}
 use mathlib.Core.Bool.{true, _&&_, and-eq-true-iff}
 use mathlib.Core.List.{List}
 use Prim.Native.Nat.{ℕ, zero, suc, _+_, _-_, _*_, _/_, _≤_, _<_}
@@ -10,7 +10,6 @@ use lib.Dec.{eqb, ltb, leb}
 use lib.ListN.{length}
 use borrow.Author.Tests.{eq-eqb, lt-ltb, le-leb, eqb-true, ltb-true, leb-true}
 use Rattle.base.proofs.Bytes.{length-part}
-use Rattle.clause.specs.Clauses.{Literals}
 use Rattle.sheet.specs.declared.Reason.{Reason}
 use Rattle.sheet.specs.declared.Verdict.{Verdict}
 use Rattle.sheet.specs.declared.Verdict.the-variants.{Fine, Refused}
@@ -23,22 +22,17 @@ use Rattle.sheet.specs.Checks.{checkTable, checkLengths}
 use Rattle.sheet.proofs.Fine.{Lengths, lengths-fine, fine-lengths, fine-table}
 use Rattle.tally.specs.Tally.{Tally, counted}
 use Rattle.replay_spec.specs.Slots.{Slot}
-use Rattle.replay_spec.specs.Step.{State, seenOf, namesIn, checkRecord, after, Turn, goes, stops, byVerdict, byReading, turn, passes, reached, fits, Stepped, stepped, Step, taken, unfit, byTurn, oneStep}
-use Rattle.replay_spec.specs.Step.{refused as step-refused}
-use Rattle.replay_spec.specs.Replay.{refused, accepted, ending, run, start, byLengths, replay}
+use Rattle.replay_spec.specs.Step.{State, checkRecord, after, Turn, goes, stops, byVerdict, byReading, turn, byTurn, passes, reached, fits, Stepped, stepped, Step, taken, answered, numbered, oneStep}
+use Rattle.replay_spec.specs.Replay.{Result, refused, accepted, ending, run, start, byLengths, replay}
 
 -- ---- a turn
 
--- what the checks say of record r in state s
-abbrev pub judged : Edition → List ℕ → State → Record → Verdict
-judged e rules s r = checkRecord e rules (s .tally .next) (seenOf (s .slots) (namesIn r)) r
-
 module _ (e : Edition) (rules b : List ℕ) (s : State) where
-  pub turn-goes : (r : Record) → reading e true b ≡ reads r → judged e rules s r ≡ Fine → turn e rules b s ≡ goes (after s r)
+  pub turn-goes : (r : Record) → reading e true b ≡ reads r → checkRecord e rules s r ≡ Fine → turn e rules b s ≡ goes (after s r)
   unfolding turn byReading byVerdict
   turn-goes r q v = rw (q, v)
 
-  pub turn-stops : (r : Record) (why : Reason) → reading e true b ≡ reads r → judged e rules s r ≡ Refused why → turn e rules b s ≡ stops why
+  pub turn-stops : (r : Record) (why : Reason) → reading e true b ≡ reads r → checkRecord e rules s r ≡ Refused why → turn e rules b s ≡ stops why
   unfolding turn byReading byVerdict
   turn-stops r why q v = rw (q, v)
 
@@ -48,17 +42,17 @@ module _ (e : Edition) (rules b : List ℕ) (s : State) where
 
   -- a turn that goes has read a record, which is fine
   pub turn-went : (t : State) → turn e rules b s ≡ goes t
-      → (r : Record) × (reading e true b ≡ reads r) × (judged e rules s r ≡ Fine) × (t ≡ after s r)
+      → (r : Record) × (reading e true b ≡ reads r) × (checkRecord e rules s r ≡ Fine) × (t ≡ after s r)
   unfolding turn byReading byVerdict
   turn-went t g = by-reading (reading e true b) refl g
     where
-      by-verdict : (r : Record) (v : Verdict) → judged e rules s r ≡ v → byVerdict v (after s r) ≡ goes t → (v ≡ Fine) × (t ≡ after s r)
+      by-verdict : (r : Record) (v : Verdict) → checkRecord e rules s r ≡ v → byVerdict v (after s r) ≡ goes t → (v ≡ Fine) × (t ≡ after s r)
       by-verdict r Fine q h = (refl, cc)
       by-verdict r (Refused why) q h = (cc, cc)
 
       by-reading : (w : Reading) → reading e true b ≡ w → byReading e rules s w ≡ goes t
-          → (r : Record) × (reading e true b ≡ reads r) × (judged e rules s r ≡ Fine) × (t ≡ after s r)
-      by-reading (reads r) q h = let v = by-verdict r (judged e rules s r) refl h in (r, q, v .0, v .1)
+          → (r : Record) × (reading e true b ≡ reads r) × (checkRecord e rules s r ≡ Fine) × (t ≡ after s r)
+      by-reading (reads r) q h = let v = by-verdict r (checkRecord e rules s r) refl h in (r, q, v .0, v .1)
       by-reading (unread why) q h = let z : _≡_ {A = ℕ} 0 1 = cc in absurd (omega arith)
 
 module _ (e : Edition) (rules sheet : List ℕ) (m k : ℕ) (s : State) where
@@ -83,13 +77,13 @@ module _ (e : Edition) (sheet rules : List ℕ) (slots : List Slot) where
       count : (f : Edition) (k : ℕ) → recordBytes f * k / recordBytes f ≡ k
       count narrow k = omega arith
 
-  pub accepted-lengths : (c : Literals) (nodes steps peak : ℕ) → replay e sheet rules slots .answer ≡ accepted c nodes steps peak
+  pub accepted-lengths : (r : Result) → replay e sheet rules slots .answer ≡ accepted r
       → Lengths e (replayRecords e) (length sheet) (length rules) (length sheet / recordBytes e)
   unfolding replay byLengths
-  accepted-lengths c nodes steps peak a = by-verdict (checkLengths e (replayRecords e) (length sheet) (length rules)) refl a
+  accepted-lengths r a = by-verdict (checkLengths e (replayRecords e) (length sheet) (length rules)) refl a
     where
       by-verdict : (v : Verdict) → checkLengths e (replayRecords e) (length sheet) (length rules) ≡ v
-          → byLengths e sheet rules slots v .answer ≡ accepted c nodes steps peak
+          → byLengths e sheet rules slots v .answer ≡ accepted r
           → Lengths e (replayRecords e) (length sheet) (length rules) (length sheet / recordBytes e)
       by-verdict Fine q h = lengths-fine e (replayRecords e) (length sheet) (length rules) q
       by-verdict (Refused why) q h = let z : _≡_ {A = ℕ} 0 1 = cc in absurd (omega arith)
@@ -138,9 +132,9 @@ fits-tells e rules bytes t f =
 
 -- where they fit, the turn decides
 pub step-by-turn : (e : Edition) (rules b : List ℕ) (k : ℕ) (s : State) (t : Turn)
-    → fits e (length rules) (length b) (s .tally) ≡ true → turn e rules b s ≡ t → oneStep e rules b k s ≡ byTurn k s t
+    → fits e (length rules) (length b) (s .tally) ≡ true → turn e rules b s ≡ t → oneStep e rules b k s ≡ numbered k (byTurn s t)
 unfolding oneStep
-step-by-turn e rules b k s t f q = rw f (ap (byTurn k s) q)
+step-by-turn e rules b k s t f q = rw f (ap (λ (x : Turn). numbered k (byTurn s x)) q)
 
 pub step-is-turn : (e : Edition) (rules b : List ℕ) (k : ℕ) (s : State)
     → checkTable e (length rules) ≡ Fine
@@ -148,67 +142,68 @@ pub step-is-turn : (e : Edition) (rules b : List ℕ) (k : ℕ) (s : State)
     → s .tally .next < replayRecords e
     → s .tally .held ≤ s .tally .next
     → s .tally .steps ≤ s .tally .next
-    → oneStep e rules b k s ≡ byTurn k s (turn e rules b s)
+    → oneStep e rules b k s ≡ numbered k (byTurn s (turn e rules b s))
 step-is-turn e rules b k s table size few held steps =
     step-by-turn e rules b k s (turn e rules b s) (fits-within e rules b (s .tally) table size few held steps) refl
 
--- ---- the public step in a run
+-- ---- a record in a run
 
-taken-goes : (k : ℕ) (s : State) (t : Turn) → byTurn k s t .answer ≡ taken → t ≡ goes (byTurn k s t .state)
+fine-goes : (s : State) (t : Turn) → byTurn s t .verdict ≡ Fine → t ≡ goes (byTurn s t .state)
 unfolding byTurn
-taken-goes k s (goes t) h = refl
-taken-goes k s (stops why) h = cc
+fine-goes s (goes t) h = refl
+fine-goes s (stops why) h = cc
 
-refused-stops : (k : ℕ) (s : State) (t : Turn) (x j : ℕ) → byTurn k s t .answer ≡ step-refused x j
-    → (why : Reason) × (t ≡ stops why) × (x ≡ numberOf why) × (j ≡ k)
+refused-stops : (s : State) (t : Turn) (why : Reason) → byTurn s t .verdict ≡ Refused why → t ≡ stops why
 unfolding byTurn
-refused-stops k s (goes t) x j h = let z : _≡_ {A = ℕ} 0 1 = cc in absurd (omega arith)
-refused-stops k s (stops why) x j h = (why, refl, cc, cc)
+refused-stops s (goes t) why h = cc
+refused-stops s (stops x) why h = ap stops (cc)
 
-never-unfit : (k : ℕ) (s : State) (t : Turn) → byTurn k s t .answer ≡ unfit → ⊥
-unfolding byTurn
-never-unfit k s (goes t) h = let z : _≡_ {A = ℕ} 0 1 = cc in omega arith
-never-unfit k s (stops why) h = let z : _≡_ {A = ℕ} 0 1 = cc in omega arith
+taken-fine : (k : ℕ) (v : Verdict) → answered k v ≡ taken → v ≡ Fine
+unfolding answered
+taken-fine k Fine h = refl
+taken-fine k (Refused why) h = cc
 
 record-inside : (e : Edition) (k n : ℕ) → k < n → recordBytes e * k + recordBytes e ≤ recordBytes e * n
 record-inside narrow k n h = omega arith
 
--- record k of a sheet of n, lent to the step in a state that is within
+-- record k of a sheet of n, in a state that is within
 module _ (e : Edition) (sheet rules : List ℕ) (n : ℕ) (l : Lengths e (replayRecords e) (length sheet) (length rules) n)
     (k : ℕ) (h : k < n) (s : State) (w : Within k (s .tally)) where
-  pub step-turns : oneStep e rules (recordAt e sheet k) k s ≡ byTurn k s (turn e rules (recordAt e sheet k) s)
+  -- it fits
+  pub record-fits : fits e (length rules) (length (recordAt e sheet k)) (s .tally) ≡ true
   unfolding recordAt
-  step-turns =
+  record-fits =
       let inside = record-inside e k n h in
       let few : n ≤ replayRecords e = l .2 in
-      step-is-turn e rules (recordAt e sheet k) k s (fine-table e (length rules) (l .3))
+      fits-within e rules (recordAt e sheet k) (s .tally) (fine-table e (length rules) (l .3))
       (length-part (recordBytes e) sheet (recordBytes e * k) (rw (l .0) inside)) (omega (arith, w .next)) (w .held) (w .steps)
 
-  answer-turns : oneStep e rules (recordAt e sheet k) k s .answer ≡ byTurn k s (turn e rules (recordAt e sheet k) s) .answer
-  answer-turns = ap (λ (x : Stepped). x .answer) step-turns
+  pub step-turns : oneStep e rules (recordAt e sheet k) k s ≡ numbered k (byTurn s (turn e rules (recordAt e sheet k) s))
+  step-turns = step-by-turn e rules (recordAt e sheet k) k s (turn e rules (recordAt e sheet k) s) record-fits refl
 
-  -- taken: the run goes on from the state then, which is within
-  pub step-goes-on : (m : ℕ) → oneStep e rules (recordAt e sheet k) k s .answer ≡ taken
-      → (run e rules sheet (suc m) k s ≡ run e rules sheet m (suc k) (oneStep e rules (recordAt e sheet k) k s .state))
-      × Within (suc k) (oneStep e rules (recordAt e sheet k) k s .state .tally)
+  -- fine: the run goes on from the state then, which is within
+  pub turn-goes-on : (m : ℕ) → byTurn s (turn e rules (recordAt e sheet k) s) .verdict ≡ Fine
+      → (run e rules sheet (suc m) k s ≡ run e rules sheet m (suc k) (byTurn s (turn e rules (recordAt e sheet k) s) .state))
+      × Within (suc k) (byTurn s (turn e rules (recordAt e sheet k) s) .state .tally)
   unfolding after
-  step-goes-on m a =
+  turn-goes-on m a =
       let b = recordAt e sheet k in
-      let t = oneStep e rules b k s .state in
-      let g : turn e rules b s ≡ goes t = rw step-turns (taken-goes k s (turn e rules b s) (sym answer-turns ∙ a)) in
+      let t = byTurn s (turn e rules b s) .state in
+      let g : turn e rules b s ≡ goes t = fine-goes s (turn e rules b s) a in
       let (r, read, fine, is) = turn-went e rules b s t g in
       (run-goes e rules sheet m k s t g, rw is (within-counted k (s .tally) r w))
 
   -- refused: that is the answer
-  pub step-refuses : (m x j : ℕ) → oneStep e rules (recordAt e sheet k) k s .answer ≡ step-refused x j
-      → run e rules sheet (suc m) k s ≡ refused x j
-  step-refuses m x j a =
-      let (why, g, is, at) = refused-stops k s (turn e rules (recordAt e sheet k) s) x j (sym answer-turns ∙ a) in
-      run-stops e rules sheet m k s why g ∙ ap₂ refused (sym is) (sym at)
+  pub turn-refuses : (m : ℕ) (why : Reason) → byTurn s (turn e rules (recordAt e sheet k) s) .verdict ≡ Refused why
+      → run e rules sheet (suc m) k s ≡ refused (numberOf why) k
+  turn-refuses m why a = run-stops e rules sheet m k s why (refused-stops s (turn e rules (recordAt e sheet k) s) why a)
 
-  -- and it fits
-  pub step-fits : oneStep e rules (recordAt e sheet k) k s .answer ≡ unfit → ⊥
-  step-fits a = never-unfit k s (turn e rules (recordAt e sheet k) s) (sym answer-turns ∙ a)
+  -- and so does the public step
+  pub step-goes-on : (m : ℕ) → oneStep e rules (recordAt e sheet k) k s .answer ≡ taken
+      → (run e rules sheet (suc m) k s ≡ run e rules sheet m (suc k) (oneStep e rules (recordAt e sheet k) k s .state))
+      × Within (suc k) (oneStep e rules (recordAt e sheet k) k s .state .tally)
+  step-goes-on m a =
+      rw step-turns (turn-goes-on m (taken-fine k (byTurn s (turn e rules (recordAt e sheet k) s) .verdict) (sym (ap (λ (x : Stepped). x .answer) step-turns) ∙ a)))
 
 -- ---- the public step, again and again
 
@@ -261,11 +256,11 @@ module _ (e : Edition) (sheet rules : List ℕ) (slots : List Slot) (n : ℕ) (l
     -- a turn that goes is one more that is taken, and a turn that stops is the answer
     pub taken-more : (t : State) → turn e rules (recordAt e sheet k) (afterSteps e rules sheet (start slots) k) ≡ goes t
         → FirstTaken e rules sheet (start slots) (suc k) × (afterSteps e rules sheet (start slots) (suc k) ≡ t)
-    unfolding afterSteps byTurn
+    unfolding afterSteps byTurn answered
     taken-more t g =
         let s = afterSteps e rules sheet (start slots) k in
         let q : oneStep e rules (recordAt e sheet k) k s ≡ stepped taken t =
-        step-turns e sheet rules n l k h s (steps-within k (omega arith) first) ∙ ap (byTurn k s) g in (
+        step-turns e sheet rules n l k h s (steps-within k (omega arith) first) ∙ ap (λ (x : Turn). numbered k (byTurn s x)) g in (
           (λ j i. elim (ℕ-discrete j k) [ yes o ↦ rw o (ap (λ (x : Stepped). x .answer) q) | no o ↦ first j (omega arith) ]),
           ap (λ (x : Stepped). x .state) q,
         )

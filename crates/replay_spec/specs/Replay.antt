@@ -1,6 +1,5 @@
 -- The whole replay: checks 1 to 4, then record by record, then 16.
-use Prim.Native.Nat.{ℕ, zero, suc, _-_, _/_}
-use mathlib.Core.Bool.{cond}
+use Prim.Native.Nat.{ℕ, zero, suc, _/_}
 use mathlib.Core.List.{List}
 use lib.ListN.{length}
 use Rattle.clause.specs.Clauses.{Literals}
@@ -11,20 +10,29 @@ use Rattle.sheet.specs.Editions.{Edition, recordBytes, replayRecords}
 use Rattle.sheet.specs.Reasons.{numberOf}
 use Rattle.sheet.specs.Fields.{recordAt}
 use Rattle.sheet.specs.Checks.{checkLengths}
-use Rattle.tally.specs.Tally.{nothing}
-use Rattle.replay_spec.specs.Slots.{Slot, held, clauseHeld, cleared}
+use Rattle.tally.specs.Tally.{Tally, nothing}
+use Rattle.replay_spec.specs.Slots.{Slot, Place, nowhere, at, look, lastOf, cleared}
 use Rattle.replay_spec.specs.Step.{State, state, goes, stops, turn}
 
--- the paper's number and record of a refusal; conclusion, nodes, steps and peak of a result
+-- "An accepted replay returns the conclusion, the nodes, the steps it took and the peak it reached."
+pub record Result : Type 0 where
+  pub conclusion : Literals
+  pub nodes : ℕ
+  pub steps : ℕ
+  pub peak : ℕ
+
+-- a refusal has the paper's number of its reason, and the record's
 pub data Answer : Type 0 where
   refused : ℕ → ℕ → Answer
-  accepted : Literals → ℕ → ℕ → ℕ → Answer
+  accepted : Result → Answer
 
 -- 16: at the end the last node isn't held. It reports the count of records.
+unfoldable pub byLast : ℕ → Tally → Place → Answer
+byLast k t nowhere = refused (numberOf NotHeld) k
+byLast k t (at i s) = accepted (record { conclusion = s .clause; nodes = t .next; steps = t .steps; peak = t .peak })
+
 unfoldable pub ending : ℕ → State → Answer
-ending k s =
-    let t = s .tally in
-    cond (held (t .next - 1) (s .slots)) (accepted (clauseHeld (t .next - 1) (s .slots)) (t .next) (t .steps) (t .peak)) (refused (numberOf NotHeld) k)
+ending k s = byLast k (s .tally) (look (lastOf (s .tally .next)) (s .slots))
 
 -- m records, the first of them number k
 unfoldable pub run : Edition → List ℕ → List ℕ → ℕ → ℕ → State → Answer

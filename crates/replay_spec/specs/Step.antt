@@ -1,10 +1,9 @@
--- One record of the replay: the tally and the slots before it, what is refused, and the tally and the slots after it.
+-- One record of the replay: the tally and the slots before it, its checks, and the tally and the slots after it.
 use Prim.Native.Nat.{ℕ}
 use mathlib.Core.Bool.{Bool, true, false, _&&_, cond}
-use mathlib.Core.List.{List}
+use mathlib.Core.List.{List, [], _∷_}
 use lib.Dec.{eqb, ltb, leb}
 use lib.ListN.{length}
-use Rattle.clause.specs.Clauses.{Literals}
 use Rattle.sheet.specs.declared.Reason.{Reason}
 use Rattle.sheet.specs.declared.Reason.the-variants.{Dropped, Full}
 use Rattle.sheet.specs.declared.Verdict.{Verdict}
@@ -24,54 +23,37 @@ pub record State : Type 0 where
 abbrev pub state : Tally → List Slot → State
 state t slots = record { tally = t; slots = slots }
 
--- the nodes that a record names: a step its parents, a drop its node; a given record names none, and 0 stands for that
-pub record Names : Type 0 where
-  pub left : ℕ
-  pub right : ℕ
+-- ---- the checks of a record that reads
 
-abbrev pub names : ℕ → ℕ → Names
-names l r = record { left = l; right = r }
-
-unfoldable pub namesIn : Record → Names
-namesIn (node (given line c)) = names 0 0
-namesIn (node (step p l r c)) = names l r
-namesIn (drop n) = names n n
-
--- what the slots show of two named nodes, and whether one is free
-pub record Seen : Type 0 where
-  pub leftHeld : Bool
-  pub left : Literals
-  pub rightHeld : Bool
-  pub right : Literals
-  pub roomy : Bool
-
-unfoldable pub seenOf : List Slot → Names → Seen
-seenOf slots ns =
-    record {
-      leftHeld = held (ns .left) slots;
-      left = clauseHeld (ns .left) slots;
-      rightHeld = held (ns .right) slots;
-      right = clauseHeld (ns .right) slots;
-      roomy = room slots;
-    }
-
--- 9: named node isn't earlier. 10: named node was dropped.
-unfoldable pub checkNames : ℕ → Names → Seen → Verdict
-checkNames next ns seen =
-    andThen (checkEarlier next (ns .left)) (andThen (checkEarlier next (ns .right)) (unless (seen .leftHeld) Dropped (unless (seen .rightHeld) Dropped Fine)))
+-- 10: named node was dropped
+unfoldable pub checkHeld : List Slot → ℕ → Verdict
+checkHeld slots n = unless (held n slots) Dropped Fine
 
 -- 15: node record, and every slot holds a node
-unfoldable pub checkRoom : Seen → Verdict
-checkRoom seen = unless (seen .roomy) Full Fine
+unfoldable pub checkRoom : List Slot → Verdict
+checkRoom slots = unless (room slots) Full Fine
 
--- the smallest number that applies to a record that reads, with the number of the next node and what the slots show
-unfoldable pub checkRecord : Edition → List ℕ → ℕ → Seen → Record → Verdict
-checkRecord e rules next seen (node (given line c)) = andThen (checkGiven e rules line c) (checkRoom seen)
-checkRecord e rules next seen (node (step p l r c)) =
-    andThen (checkNames next (names l r) seen) (andThen (checkStep p (seen .left) (seen .right) c) (checkRoom seen))
-checkRecord e rules next seen (drop n) = checkNames next (names n n) seen
+-- the first of them that refuses
+unfoldable pub firstOf : List Verdict → Verdict
+firstOf [] = Fine
+firstOf (v ∷ rest) = andThen v (firstOf rest)
 
--- the slots after a record that is taken
+-- the smallest number that applies: 9, 10, 11 and 12, 15 of a step; 13 and 14, 15 of a given record; 9, 10 of a drop
+unfoldable pub checkRecord : Edition → List ℕ → State → Record → Verdict
+checkRecord e rules s (node (given line c)) = firstOf (checkGiven e rules line c ∷ checkRoom (s .slots) ∷ [])
+checkRecord e rules s (node (step p l r c)) =
+    firstOf
+    (checkEarlier (s .tally .next) l
+    ∷ checkEarlier (s .tally .next) r
+    ∷ checkHeld (s .slots) l
+    ∷ checkHeld (s .slots) r
+    ∷ checkStep p (clauseHeld l (s .slots)) (clauseHeld r (s .slots)) c
+    ∷ checkRoom (s .slots)
+    ∷ [])
+checkRecord e rules s (drop n) = firstOf (checkEarlier (s .tally .next) n ∷ checkHeld (s .slots) n ∷ [])
+
+-- ---- the state after one that is taken
+
 unfoldable pub stored : ℕ → Record → List Slot → List Slot
 stored next (node n) slots = hold next (clause n) slots
 stored next (drop n) slots = release n slots
@@ -89,12 +71,26 @@ byVerdict Fine s = goes s
 byVerdict (Refused why) s = stops why
 
 unfoldable pub byReading : Edition → List ℕ → State → Reading → Turn
-byReading e rules s (reads r) = byVerdict (checkRecord e rules (s .tally .next) (seenOf (s .slots) (namesIn r)) r) (after s r)
+byReading e rules s (reads r) = byVerdict (checkRecord e rules s r) (after s r)
 byReading e rules s (unread why) = stops why
 
 -- the record whose bytes are b
 unfoldable pub turn : Edition → List ℕ → List ℕ → State → Turn
 turn e rules b s = byReading e rules s (reading e true b)
+
+-- what is said of it, and the tally and the slots then: "a refused record changes neither"
+pub record Judged : Type 0 where
+  pub verdict : Verdict
+  pub state : State
+
+abbrev pub judged : Verdict → State → Judged
+judged v s = record { verdict = v; state = s }
+
+unfoldable pub byTurn : State → Turn → Judged
+byTurn s (goes t) = judged Fine t
+byTurn s (stops why) = judged (Refused why) s
+
+-- ---- one step, for whoever lends the state
 
 -- What a caller can lend that no replay within its limit has: a record of another length, a rule table that check 4 refuses, a tally
 -- that is not reached.
@@ -114,7 +110,11 @@ pub data Step : Type 0 where
   refused : ℕ → ℕ → Step
   unfit : Step
 
--- the answer, and the tally and the slots then: "a refused record changes neither"
+unfoldable pub answered : ℕ → Verdict → Step
+answered k Fine = taken
+answered k (Refused why) = refused (numberOf why) k
+
+-- the answer, and the tally and the slots then
 pub record Stepped : Type 0 where
   pub answer : Step
   pub state : State
@@ -122,10 +122,9 @@ pub record Stepped : Type 0 where
 abbrev pub stepped : Step → State → Stepped
 stepped a s = record { answer = a; state = s }
 
-unfoldable pub byTurn : ℕ → State → Turn → Stepped
-byTurn k s (goes t) = stepped taken t
-byTurn k s (stops why) = stepped (refused (numberOf why) k) s
+abbrev pub numbered : ℕ → Judged → Stepped
+numbered k j = stepped (answered k (j .verdict)) (j .state)
 
 -- record number k, lent to one step with a state
 unfoldable pub oneStep : Edition → List ℕ → List ℕ → ℕ → State → Stepped
-oneStep e rules b k s = cond (fits e (length rules) (length b) (s .tally)) (byTurn k s (turn e rules b s)) (stepped unfit s)
+oneStep e rules b k s = cond (fits e (length rules) (length b) (s .tally)) (numbered k (byTurn s (turn e rules b s))) (stepped unfit s)

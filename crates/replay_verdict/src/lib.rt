@@ -1,60 +1,27 @@
-// What is wrong with a record that reads (9 to 15), and whether a step is lent what a replay has.
+// What is wrong with a record that reads (9 to 15), by what was found in the row; and whether a step is lent what a replay has.
 ghost use mathlib.Core.Path.{_≡_};
-ghost use Rattle.sheet.specs.Reasons.{andThen};
 ghost use Rattle.sheet.specs.Editions.{narrow};
+ghost use Rattle.sheet.specs.Reasons.{andThen};
 ghost use Rattle.sheet.specs.Denote.{recordOf};
 ghost use Rattle.tally.specs.Said.{tallyOf};
-ghost use Rattle.replay_spec.specs.Step.{namesIn, checkNames, checkRoom, checkRecord, reached, fits};
-ghost use Rattle.replay_slots.specs.Said.{namesOf, seenIn};
-use replay_slots::Names;
-use replay_slots::Seen;
+ghost use Rattle.replay_spec.specs.Step.{reached, fits};
+ghost use Rattle.replay_slots.specs.Said.{placeOf};
+ghost use Rattle.replay_verdict.specs.Found.{checkPlace, checkFound};
+use replay_slots::Place;
 use sheet::NodeNo;
 use sheet::Reason;
 use sheet::Record;
 use sheet::Verdict;
 use tally::Tally;
 
-pub fn names_in(r: Record) -> Names
-    ensures { λ ns. ⌜ namesOf ns ≡ namesIn (recordOf r) ⌝ }
+// 10: named node was dropped. 15: every slot holds a node.
+fn check_place(why: Reason, place: Place) -> Verdict
+    ensures { λ v. ⌜ v ≡ checkPlace why (placeOf place) ⌝ }
 {
-    match r {
-        Record::Given { line: _, clause: _ } => Names {
-            left: NodeNo(0),
-            right: NodeNo(0),
-        },
-        Record::Step {
-            pivot: _,
-            left,
-            right,
-            clause: _,
-        } => Names { left, right },
-        Record::Drop(n) => Names { left: n, right: n },
+    match place {
+        Place::Nowhere => Verdict::Refused(why),
+        Place::At(_, _) => Verdict::Fine,
     }
-}
-
-// 9: named node isn't earlier. 10: named node was dropped.
-fn check_names(next: NodeNo, ns: Names, seen: Seen) -> Verdict
-    ensures { λ v. ⌜ v ≡ checkNames (next .0) (namesOf ns) (seenIn seen) ⌝ }
-{
-    let left = ns.left;
-    let right = ns.right;
-    if left.0 < next.0 && right.0 < next.0 {
-        if seen.left_held && seen.right_held {
-            return Verdict::Fine;
-        }
-        return Verdict::Refused(Reason::Dropped);
-    }
-    Verdict::Refused(Reason::NotEarlier)
-}
-
-// 15: node record, and every slot holds a node.
-fn check_room(seen: Seen) -> Verdict
-    ensures { λ v. ⌜ v ≡ checkRoom (seenIn seen) ⌝ }
-{
-    if seen.roomy {
-        return Verdict::Fine;
-    }
-    Verdict::Refused(Reason::Full)
 }
 
 // The first of two verdicts that refuses.
@@ -68,29 +35,42 @@ fn and_then(v: Verdict, rest: Verdict) -> Verdict
 }
 
 // The smallest number that applies to a record that reads.
-pub fn check_record(rules: &[u8], next: NodeNo, seen: Seen, r: Record) -> Verdict
-    ensures { λ v. ⌜ v ≡ checkRecord narrow (now (rules .entry)) (next .0) (seenIn seen) (recordOf r) ⌝ }
+pub fn check_record(
+    rules: &[u8],
+    next: NodeNo,
+    r: Record,
+    left: Place,
+    right: Place,
+    vacant: Place,
+) -> Verdict
+    ensures { λ v. ⌜ v ≡ checkFound narrow (now (rules .entry)) (next .0) (recordOf r) (placeOf left) (placeOf right) (placeOf vacant) ⌝ }
 {
+    let roomy = check_place(Reason::Full, vacant);
+    let left_held = check_place(Reason::Dropped, left);
     match r {
         Record::Given { line, clause } => {
-            and_then(
-                sheet_checks::check_given(rules, line, clause),
-                check_room(seen),
-            )
+            and_then(sheet_checks::check_given(rules, line, clause), roomy)
         }
         Record::Step {
             pivot,
-            left,
-            right,
+            left: left_node,
+            right: right_node,
             clause,
         } => {
-            let stepped = and_then(
-                sheet_checks::check_step(pivot, seen.left, seen.right, clause),
-                check_room(seen),
+            let left_slot = replay_slots::slot_in(left);
+            let right_slot = replay_slots::slot_in(right);
+            let right_held = check_place(Reason::Dropped, right);
+            let resolved = sheet_checks::check_step(
+                pivot,
+                left_slot.clause,
+                right_slot.clause,
+                clause,
             );
-            and_then(check_names(next, Names { left, right }, seen), stepped)
+            let held = and_then(left_held, and_then(right_held, and_then(resolved, roomy)));
+            let right_earlier = and_then(sheet_checks::check_earlier(next, right_node), held);
+            and_then(sheet_checks::check_earlier(next, left_node), right_earlier)
         }
-        Record::Drop(n) => check_names(next, Names { left: n, right: n }, seen),
+        Record::Drop(n) => and_then(sheet_checks::check_earlier(next, n), left_held),
     }
 }
 

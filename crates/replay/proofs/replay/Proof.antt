@@ -28,6 +28,7 @@ use denote.Builtin.{u8}
 use denote.Slice.{sliceVal, MutSlice, ShrSlice, Room, slice-vals, mut-slice-tells, shr-slice-tells}
 use denote.Index.{row, closes-slice}
 use denote.Signature.{plain, shrSliceOf}
+use denote.Struct.Laws as LL
 use denote.Enum.Laws as EL
 use denote.Triple.Statement.{Contract, Triple}
 use denote.Triple.Entry.{onEntry}
@@ -47,7 +48,7 @@ use Rattle.lending.proofs.Parts.{lent-of, lent-val, Lent}
 use Rattle.lending.proofs.Rows.{room-at}
 use Rattle.sheet.specs.declared.Verdict.{Verdict}
 use Rattle.sheet.specs.Checks.{checkLengths}
-use Rattle.sheet.specs.Editions.{narrow, replayRecords}
+use Rattle.sheet.specs.Editions.{narrow, recordBytes, replayRecords}
 use Rattle.sheet.proofs.Verdict as J
 use Rattle.sheet.proofs.Verdict.Laws as J′
 use Rattle.sheet_checks.proofs.check_lengths as lengths′
@@ -66,14 +67,29 @@ use Rattle.replay_answer.proofs.ReplayAnswer as B
 use Rattle.replay_answer.proofs.ReplayAnswer.Laws as B′
 use Rattle.replay_step.proofs.Values.{answer-val, verdict-val}
 use Rattle.replay_row.proofs.Prims.{Clear, call-clear}
-use Rattle.replay.proofs.Answers.{Passes, Refuses, call-passes, call-refused}
+use Rattle.replay.proofs.Answers.{Nothing, Nowhere, End, Passes, call-nothing, call-nowhere, call-end, call-passes}
+use Rattle.tally.specs.Said.{tallyOf}
+use Rattle.tally.proofs.Tally as Y
+use Rattle.tally.proofs.Tally.Laws as Y′
+use Rattle.tally.proofs.nothing.Symbol as nothing-def
+use Rattle.tally.proofs.nothing.Symbol.{name as #nothing}
+use Rattle.tally.proofs.nothing.Met as nothing-thm
+use Rattle.sheet.proofs.RecordNo as R
+use Rattle.sheet.proofs.RecordNo.Laws as R′
+use Rattle.replay_slots.specs.Said.{placeOf}
+use Rattle.replay_slots.proofs.Place as F
+use Rattle.replay_slots.proofs.Place.Laws as F′
+use Rattle.replay_slots.proofs.nowhere.Symbol as nowhere-def
+use Rattle.replay_slots.proofs.nowhere.Symbol.{name as #nowhere}
+use Rattle.replay_slots.proofs.nowhere.Met as nowhere-thm
+use Rattle.replay_answer.proofs.end.Symbol as end-def
+use Rattle.replay_answer.proofs.end.Symbol.{name as #end}
+use Rattle.replay_answer.proofs.end.Met as end-thm
+use Rattle.replay_step.proofs.Stepping.{number, number-is}
 use Rattle.replay.proofs.Whole.{cleared-length, fine-is, comes-fine, comes-refused}
 use Rattle.replay_answer.proofs.passes.Symbol as passes-def
 use Rattle.replay_answer.proofs.passes.Symbol.{name as #passes}
 use Rattle.replay_answer.proofs.passes.Met as passes-thm
-use Rattle.replay_answer.proofs.refused.Symbol as refused-def
-use Rattle.replay_answer.proofs.refused.Symbol.{name as #refused}
-use Rattle.replay_answer.proofs.refused.Met as refused-thm
 use Rattle.replay_row.proofs.clear.Symbol as clear-def
 use Rattle.replay_row.proofs.clear.Symbol.{name as #clear}
 use Rattle.replay_row.proofs.clear.Met as clear-thm
@@ -104,7 +120,9 @@ module _ {M : Type 1} (𝓤 : URA M) (H : Heap 𝓤) (A : Atoms 𝓤) (at-mem : 
     passes : Triple 𝓤 (C #passes) (Passes 𝓤 H A at-mem run)
     clear : Triple 𝓤 (C #clear) (Clear 𝓤 H A at-mem run)
     runs-it : Triple 𝓤 (C #run) Run
-    refused : Triple 𝓤 (C #refused) (Refuses 𝓤 H A at-mem run)
+    nothing : Triple 𝓤 (C #nothing) (Nothing 𝓤 H A at-mem run)
+    nowhere : Triple 𝓤 (C #nowhere) (Nowhere 𝓤 H A at-mem run)
+    end : Triple 𝓤 (C #end) (End 𝓤 H A at-mem run)
 
 module _ {M : Type 1} (𝓤 : URA M) (H : Heap 𝓤) (A : Atoms 𝓤) (W : Given 𝓤 H A) (at-mem : Memory → SProp 𝓤) (run : Routine → Fun 𝓤) (sheet rules : Lent u8) (slots : Lent T.the-row)
     (room₀ : Room u8 (length (sheet .now))) (room₁ : Room u8 (length (rules .now))) (room : Room T.the-row (length (slots .now))) where
@@ -124,9 +142,9 @@ module _ {M : Type 1} (𝓤 : URA M) (H : Heap 𝓤) (A : Atoms 𝓤) (W : Given
       says ! e $ by ! (ends-with-row 𝓤 H A W sheet rules slots zs same room ftrue (id⊢ 𝓤 _) (EL.makes B.the-type B′.the-plain 𝓤 H A r (answer-val r ∷ []) gr))
 
   module _ (C : Calls 𝓤 H) (Λ : Loops 𝓤 H) (fm : FmC 𝓤 H (W .laws) C) (known : Known 𝓤 H A at-mem run C) where
-    module _ (l₀ l₁ l₂ l₃ l₄ l₅ l₆ l₇ l₈ l₉ l₁₀ l₁₁ l₁₂ l₁₃ l₁₄ l₁₅ : ℕ) where
+    module _ (l₀ l₁ l₂ l₃ l₄ l₅ l₆ l₇ l₈ l₉ l₁₀ l₁₁ l₁₂ l₁₃ l₁₄ l₁₅ l₁₆ l₁₇ l₁₈ : ℕ) where
       abbrev bs : List ℕ
-      bs = l₀ ∷ l₁ ∷ l₂ ∷ l₃ ∷ l₄ ∷ l₅ ∷ l₆ ∷ l₇ ∷ l₈ ∷ l₉ ∷ l₁₀ ∷ l₁₁ ∷ l₁₂ ∷ l₁₃ ∷ l₁₄ ∷ l₁₅ ∷ []
+      bs = l₀ ∷ l₁ ∷ l₂ ∷ l₃ ∷ l₄ ∷ l₅ ∷ l₆ ∷ l₇ ∷ l₈ ∷ l₉ ∷ l₁₀ ∷ l₁₁ ∷ l₁₂ ∷ l₁₃ ∷ l₁₄ ∷ l₁₅ ∷ l₁₆ ∷ l₁₇ ∷ l₁₈ ∷ []
 
       abbrev En : Env 𝓤 H
       En = envOf 𝓤 H (code.function .locals) bs
@@ -136,55 +154,61 @@ module _ {M : Type 1} (𝓤 : URA M) (H : Heap 𝓤) (A : Atoms 𝓤) (W : Given
       refuses : (v : Verdict) → v ≡ verdict → passes v ≡ false → Is J.the-row v (verdict-val v ∷ [])
           → Sq W (‵ (row T.the-row fullShare (slots .now) (slots .b) (slots .o)) ∷ Opened 𝓤 sheet rules slots (localsOf 𝓤 (code.function .locals) bs (none ∷ some (lent-val sheet) ∷ some (lent-val rules) ∷ some (lent-val slots) ∷ some (verdict-val v) ∷ []) [])) (runs C Λ En m.t-6 (atRet En Post))
       refuses v e no-pass gv =
-          call-refused ! at-mem run fm (known .refused) v gv (and-then ! (load ! (from ! (stop !)) (look ! 31 refl)) (no-more !)) (λ r e-r gr.
-          land ! (from ! (stop !)) (init ! 38 refl (EL.lawful B.the-type B′.the-laws 𝓤 H A W tt .typed r _ gr .0)) $
+          assigns ! (agg ! (and-then ! (lit ! tt) (no-more !))) (from ! (stop !)) (init ! 12 refl (LL.lawful R.the-type R′.the-laws 𝓤 H A W .typed (number 0) _ (number-is 0 (lit< tt)) .0)) $
+          call-nothing ! at-mem run fm (known .nothing) (no-more !) (λ u _ gu.
+          land ! (from ! (stop !)) (init ! 10 refl (LL.lawful Y.the-type Y′.the-laws 𝓤 H A W .typed u _ gu .0)) $
+          call-nowhere ! at-mem run fm (known .nowhere) (no-more !) (λ p _ gp.
+          land ! (from ! (stop !)) (init ! 8 refl (EL.lawful F.the-type F′.the-laws 𝓤 H A W tt .typed p _ gp .0)) $
+          call-end ! at-mem run fm (known .end) v gv (number 0) (number-is 0 (lit< tt)) u gu p gp (and-then ! (load ! (from ! (stop !)) (look ! 37 refl)) (and-then ! (load ! (from ! (stop !)) (look ! 13 refl)) (and-then ! (load ! (from ! (stop !)) (look ! 11 refl)) (and-then ! (load ! (from ! (stop !)) (look ! 9 refl)) (no-more !))))) (λ r e-r gr.
+          land ! (from ! (stop !)) (init ! 44 refl (EL.lawful B.the-type B′.the-laws 𝓤 H A W tt .typed r _ gr .0)) $
           move ! (0 ∷ 5 ∷ 6 ∷ 7 ∷ []) $ closes-slice ! tt T.the-row (slots .now) (slots .now) refl (slots .b) (slots .o) $
           -- [obs; the borrow; the token; sheet's token 3; rules's 4; what they own; locals from 7]
-          returns ! (look ! 37 refl) $ leaves ! 7 (code.function .locals) bs (some _ ∷ some _ ∷ some _ ∷ some _ ∷ some _ ∷ []) refl $ keep ! (0 ∷ 1 ∷ 2 ∷ 3 ∷ 4 ∷ []) $ by ! (exits (slots .now) r refl (comes-refused (sheet .now) (rules .now) (rowOf (slots .now)) v e no-pass (said r) e-r) gr))
+          returns ! (look ! 43 refl) $ leaves ! 7 (code.function .locals) bs (some _ ∷ some _ ∷ some _ ∷ some _ ∷ some _ ∷ none ∷ none ∷ none ∷ none ∷ none ∷ none ∷ none ∷ none ∷ none ∷ none ∷ none ∷ some _ ∷ some _ ∷ some _ ∷ []) refl $ keep ! (0 ∷ 1 ∷ 2 ∷ 3 ∷ 4 ∷ []) $
+          by ! (exits (slots .now) r refl (comes-refused (sheet .now) (rules .now) (rowOf (slots .now)) v e no-pass (said r) (tallyOf u) (placeOf p) e-r) gr))))
 
       -- the lengths pass
       goes : passes verdict ≡ true → Sq W (‵ (row T.the-row fullShare (slots .now) (slots .b) (slots .o)) ∷ Opened 𝓤 sheet rules slots (localsOf 𝓤 (code.function .locals) bs (none ∷ some (lent-val sheet) ∷ some (lent-val rules) ∷ some (lent-val slots) ∷ []) [])) (runs C Λ En (then m.s-5) (anyQ (afterSeq 𝓤 H (Wp 𝓤 H C Λ En m.t-6 (atReturn 𝓤 H En Post)) (atReturn 𝓤 H En Post))))
       goes pass =
-          assigns ! (addr ! (from ! (fld ! refl (hop ! (look-in ! 32 (sub ! 0 refl (whole !))) (stop !))))) (from ! (stop !)) (init ! 18 refl (tt, tt)) $
-          assigns ! (agg ! (and-then ! (load ! (from ! (stop !)) (look ! 18 refl)) (and-then ! (load ! (from ! (fld ! refl (stop !))) (look-in ! 32 (sub ! 1 refl (whole !)))) (no-more !)))) (from ! (stop !)) (init ! 16 refl (tt, (tt, (record { fits = room .0 }, tt)))) $
-          call-clear ! at-mem run fm (known .clear) (slots .now) (slots .b) (slots .o) room (λ ν δ. (and-then ! (load ! (from ! (stop !)) (look ! 17 refl)) (no-more !))) (λ zs₁ e₁.
-          land ! (from ! (stop !)) (init ! 20 refl (tt, tt)) $ forget ! 18 refl $ forget ! 16 refl $
-          rewrite ! 32 (λ (c : ℕ). ‵ (fat fullShare (tyAt (code.function .locals) 3) l₃ 0 (sliceVal (slots .b, slots .o) c))) (sym (cleared-length (slots .now) zs₁ e₁)) refl $
-          assigns ! (addr ! (from ! (fld ! refl (hop ! (look-in ! 32 (sub ! 0 refl (whole !))) (stop !))))) (from ! (stop !)) (init ! 14 refl (tt, tt)) $
-          assigns ! (agg ! (and-then ! (load ! (from ! (stop !)) (look ! 14 refl)) (and-then ! (load ! (from ! (fld ! refl (stop !))) (look-in ! 32 (sub ! 1 refl (whole !)))) (no-more !)))) (from ! (stop !)) (init ! 12 refl (tt, (tt, (record { fits = room-at T.the-row (cleared-length (slots .now) zs₁ e₁) room .0 }, tt)))) $
+          assigns ! (addr ! (from ! (fld ! refl (hop ! (look-in ! 38 (sub ! 0 refl (whole !))) (stop !))))) (from ! (stop !)) (init ! 24 refl (tt, tt)) $
+          assigns ! (agg ! (and-then ! (load ! (from ! (stop !)) (look ! 24 refl)) (and-then ! (load ! (from ! (fld ! refl (stop !))) (look-in ! 38 (sub ! 1 refl (whole !)))) (no-more !)))) (from ! (stop !)) (init ! 22 refl (tt, (tt, (record { fits = room .0 }, tt)))) $
+          call-clear ! at-mem run fm (known .clear) (slots .now) (slots .b) (slots .o) room (λ ν δ. (and-then ! (load ! (from ! (stop !)) (look ! 23 refl)) (no-more !))) (λ zs₁ e₁.
+          land ! (from ! (stop !)) (init ! 26 refl (tt, tt)) $ forget ! 24 refl $ forget ! 22 refl $
+          rewrite ! 38 (λ (c : ℕ). ‵ (fat fullShare (tyAt (code.function .locals) 3) l₃ 0 (sliceVal (slots .b, slots .o) c))) (sym (cleared-length (slots .now) zs₁ e₁)) refl $
+          assigns ! (addr ! (from ! (fld ! refl (hop ! (look-in ! 38 (sub ! 0 refl (whole !))) (stop !))))) (from ! (stop !)) (init ! 20 refl (tt, tt)) $
+          assigns ! (agg ! (and-then ! (load ! (from ! (stop !)) (look ! 20 refl)) (and-then ! (load ! (from ! (fld ! refl (stop !))) (look-in ! 38 (sub ! 1 refl (whole !)))) (no-more !)))) (from ! (stop !)) (init ! 18 refl (tt, (tt, (record { fits = room-at T.the-row (cleared-length (slots .now) zs₁ e₁) room .0 }, tt)))) $
           call-with-row ! fm (Run 𝓤 H A at-mem run) (known .runs-it) T.the-row sheet rules zs₁ (slots .b) (slots .o) (room-at T.the-row (cleared-length (slots .now) zs₁ e₁) room) (λ ν δ. (passed sheet rules (lent-for T.the-row zs₁ (slots .b) (slots .o) ν δ) tt tt, tt)) ftrue (id⊢ 𝓤 _) (λ ν δ. beside 𝓤 (fine-is verdict pass))
-          B.the-row answer-val (EL.tells B.the-type B′.the-laws) {X = Unit {0} × (Unit {0} × (List Slot × Unit {0}))} (λ ws. ws .1 .1 .0) ftrue (λ r zs. (said r ≡ runs-to narrow (rules .now) (sheet .now) (length (sheet .now) / 24) 0 (state nothing (rowOf zs₁))) × (length zs ≡ length zs₁)) (λ ν δ w. id⊢ 𝓤 _)
-          (λ ν δ. (and-then ! (load ! (from ! (stop !)) (look ! 33 refl)) (and-then ! (load ! (from ! (stop !)) (look ! 31 refl)) (and-then ! (load ! (from ! (stop !)) (look ! 9 refl)) (no-more !))))) (λ r zs₂ _ e₂ gr.
+          B.the-row answer-val (EL.tells B.the-type B′.the-laws) {X = Unit {0} × (Unit {0} × (List Slot × Unit {0}))} (λ ws. ws .1 .1 .0) ftrue (λ r zs. (said r ≡ runs-to narrow (rules .now) (sheet .now) (length (sheet .now) / recordBytes narrow) 0 (state nothing (rowOf zs₁))) × (length zs ≡ length zs₁)) (λ ν δ w. id⊢ 𝓤 _)
+          (λ ν δ. (and-then ! (load ! (from ! (stop !)) (look ! 39 refl)) (and-then ! (load ! (from ! (stop !)) (look ! 37 refl)) (and-then ! (load ! (from ! (stop !)) (look ! 15 refl)) (no-more !))))) (λ r zs₂ _ e₂ gr.
           -- [the row 0; sheet's token 1; rules's 2; its open borrow 3; obs 4; auth 5; locals from 6]
-          land ! (from ! (stop !)) (init ! 26 refl (EL.lawful B.the-type B′.the-laws 𝓤 H A W tt .typed r _ gr .0)) $ forget ! 12 refl $ forget ! 10 refl $
-          rewrite ! 30 (λ (c : ℕ). ‵ (fat fullShare (tyAt (code.function .locals) 3) l₃ 0 (sliceVal (slots .b, slots .o) c))) (sym (e₂ .1)) refl $
-          assigns ! (addr ! (from ! (fld ! refl (hop ! (look-in ! 30 (sub ! 0 refl (whole !))) (stop !))))) (from ! (stop !)) (init ! 8 refl (tt, tt)) $
-          assigns ! (agg ! (and-then ! (load ! (from ! (stop !)) (look ! 8 refl)) (and-then ! (load ! (from ! (fld ! refl (stop !))) (look-in ! 30 (sub ! 1 refl (whole !)))) (no-more !)))) (from ! (stop !)) (init ! 6 refl (tt, (tt, (record { fits = room-at T.the-row (e₂ .1 ∙ cleared-length (slots .now) zs₁ e₁) room .0 }, tt)))) $
-          call-clear ! at-mem run fm (known .clear) zs₂ (slots .b) (slots .o) (room-at T.the-row (e₂ .1 ∙ cleared-length (slots .now) zs₁ e₁) room) (λ ν δ. (and-then ! (load ! (from ! (stop !)) (look ! 7 refl)) (no-more !))) (λ zs₃ e₃.
-          land ! (from ! (stop !)) (store ! 18 refl (tt, tt)) $
-          assigns ! (of-opd ! (load ! (from ! (stop !)) (look ! 26 refl))) (from ! (stop !)) (init ! 36 refl (EL.lawful B.the-type B′.the-laws 𝓤 H A W tt .typed r _ gr .0)) $
+          land ! (from ! (stop !)) (init ! 32 refl (EL.lawful B.the-type B′.the-laws 𝓤 H A W tt .typed r _ gr .0)) $ forget ! 18 refl $ forget ! 16 refl $
+          rewrite ! 36 (λ (c : ℕ). ‵ (fat fullShare (tyAt (code.function .locals) 3) l₃ 0 (sliceVal (slots .b, slots .o) c))) (sym (e₂ .1)) refl $
+          assigns ! (addr ! (from ! (fld ! refl (hop ! (look-in ! 36 (sub ! 0 refl (whole !))) (stop !))))) (from ! (stop !)) (init ! 14 refl (tt, tt)) $
+          assigns ! (agg ! (and-then ! (load ! (from ! (stop !)) (look ! 14 refl)) (and-then ! (load ! (from ! (fld ! refl (stop !))) (look-in ! 36 (sub ! 1 refl (whole !)))) (no-more !)))) (from ! (stop !)) (init ! 12 refl (tt, (tt, (record { fits = room-at T.the-row (e₂ .1 ∙ cleared-length (slots .now) zs₁ e₁) room .0 }, tt)))) $
+          call-clear ! at-mem run fm (known .clear) zs₂ (slots .b) (slots .o) (room-at T.the-row (e₂ .1 ∙ cleared-length (slots .now) zs₁ e₁) room) (λ ν δ. (and-then ! (load ! (from ! (stop !)) (look ! 13 refl)) (no-more !))) (λ zs₃ e₃.
+          land ! (from ! (stop !)) (store ! 24 refl (tt, tt)) $
+          assigns ! (of-opd ! (load ! (from ! (stop !)) (look ! 32 refl))) (from ! (stop !)) (init ! 42 refl (EL.lawful B.the-type B′.the-laws 𝓤 H A W tt .typed r _ gr .0)) $
           move ! (0 ∷ 3 ∷ 4 ∷ 5 ∷ []) $ closes-slice ! tt T.the-row (slots .now) zs₃ (cleared-length zs₂ zs₃ e₃ ∙ e₂ .1 ∙ cleared-length (slots .now) zs₁ e₁) (slots .b) (slots .o) $
           -- [obs; the borrow; the token; sheet's token 3; rules's 4; locals from 5]
-          returns-within ! Post refl (look ! 35 refl) $ leaves ! 5 (code.function .locals) bs (some _ ∷ some _ ∷ some _ ∷ some _ ∷ none ∷ some _ ∷ none ∷ none ∷ none ∷ some _ ∷ none ∷ none ∷ none ∷ none ∷ some _ ∷ some _ ∷ []) refl $ by ! (exits zs₃ r (cleared-length zs₂ zs₃ e₃ ∙ e₂ .1 ∙ cleared-length (slots .now) zs₁ e₁) (comes-fine (sheet .now) (rules .now) (slots .now) zs₁ zs₂ zs₃ (said r) pass e₁ e₂ e₃) gr))))
+          returns-within ! Post refl (look ! 41 refl) $ leaves ! 5 (code.function .locals) bs (some _ ∷ some _ ∷ some _ ∷ some _ ∷ none ∷ some _ ∷ none ∷ none ∷ none ∷ some _ ∷ none ∷ none ∷ none ∷ none ∷ some _ ∷ some _ ∷ []) refl $ by ! (exits zs₃ r (cleared-length zs₂ zs₃ e₃ ∙ e₂ .1 ∙ cleared-length (slots .now) zs₁ e₁) (comes-fine (sheet .now) (rules .now) (slots .now) zs₁ zs₂ zs₃ (said r) pass e₁ e₂ e₃) gr))))
 
     walk : ent 𝓤 (onEntry 𝓤 H A f.signature (entry .0 .0) (entry .0 .1) (entry .0 .3) (entry .0 .4)) (WpFn 𝓤 H C Λ code.function (lent-val sheet ∷ lent-val rules ∷ lent-val slots ∷ []) Post)
     walk =
         qed W (Tokens 𝓤 sheet rules slots ∷ ‵ (owns (ShrSlice (named 0) (sheet .life) u8 ∷ ShrSlice (named 1) (rules .life) u8 ∷ MutSlice (named 2) (slots .life) T.the-row ∷ []) (entry .0 .3) (entry .0 .4)) ∷ []) ∵
         enter ! C Λ code.function (lent-val sheet ∷ lent-val rules ∷ lent-val slots ∷ []) _ $
-        alloc1 ! (λ l₀. alloc1 ! (λ l₁. alloc1 ! (λ l₂. alloc1 ! (λ l₃. alloc1 ! (λ l₄. alloc1 ! (λ l₅. alloc1 ! (λ l₆. alloc1 ! (λ l₇. alloc1 ! (λ l₈. alloc1 ! (λ l₉. alloc1 ! (λ l₁₀. alloc1 ! (λ l₁₁. alloc1 ! (λ l₁₂. alloc1 ! (λ l₁₃. alloc1 ! (λ l₁₄. alloc1 ! (λ l₁₅. alloc0 ! $ params1 ! $
-        pass1 ! (init ! 28 refl (tt, (tt, (record { fits = room₀ .0 }, tt)))) $ pass1 ! (init ! 26 refl (tt, (tt, (record { fits = room₁ .0 }, tt)))) $ pass1 ! (init ! 24 refl (tt, (tt, (record { fits = room .0 }, tt)))) $ pass0 ! $
-        move ! (32 ∷ 33 ∷ []) $ opens-with-row ! tt sheet rules slots $
-        assigns ! (of-opd ! (load ! (from ! (fld ! refl (stop !))) (look-in ! 36 (sub ! 1 refl (whole !))))) (from ! (stop !)) (init ! 26 refl (tt, record { fits = room₀ .0 })) $
-        assigns ! (of-opd ! (load ! (from ! (fld ! refl (stop !))) (look-in ! 34 (sub ! 1 refl (whole !))))) (from ! (stop !)) (init ! 24 refl (tt, record { fits = room₁ .0 })) $
+        alloc1 ! (λ l₀. alloc1 ! (λ l₁. alloc1 ! (λ l₂. alloc1 ! (λ l₃. alloc1 ! (λ l₄. alloc1 ! (λ l₅. alloc1 ! (λ l₆. alloc1 ! (λ l₇. alloc1 ! (λ l₈. alloc1 ! (λ l₉. alloc1 ! (λ l₁₀. alloc1 ! (λ l₁₁. alloc1 ! (λ l₁₂. alloc1 ! (λ l₁₃. alloc1 ! (λ l₁₄. alloc1 ! (λ l₁₅. alloc1 ! (λ l₁₆. alloc1 ! (λ l₁₇. alloc1 ! (λ l₁₈. alloc0 ! $ params1 ! $
+        pass1 ! (init ! 34 refl (tt, (tt, (record { fits = room₀ .0 }, tt)))) $ pass1 ! (init ! 32 refl (tt, (tt, (record { fits = room₁ .0 }, tt)))) $ pass1 ! (init ! 30 refl (tt, (tt, (record { fits = room .0 }, tt)))) $ pass0 ! $
+        move ! (38 ∷ 39 ∷ []) $ opens-with-row ! tt sheet rules slots $
+        assigns ! (of-opd ! (load ! (from ! (fld ! refl (stop !))) (look-in ! 42 (sub ! 1 refl (whole !))))) (from ! (stop !)) (init ! 32 refl (tt, record { fits = room₀ .0 })) $
+        assigns ! (of-opd ! (load ! (from ! (fld ! refl (stop !))) (look-in ! 40 (sub ! 1 refl (whole !))))) (from ! (stop !)) (init ! 30 refl (tt, record { fits = room₁ .0 })) $
         call-plain ! fm lengths′.ended (lengths′.clauses 𝓤 H A at-mem run) (known .lengths) tt tt tt (id⊢ 𝓤 _) (uint-makes 𝓤 H A W w64, (uint-makes 𝓤 H A W w64, (uint-makes 𝓤 H A W w64, tt))) verdict-val (EL.tells J.the-type J′.the-laws)
-        (1023, (length (sheet .now), (length (rules .now), tt))) (vint w64 1023 ∷ [], (vint w64 (length (sheet .now)) ∷ [], (vint w64 (length (rules .now)) ∷ [], tt))) ((refl, lit< tt), ((refl, room₀ .0), ((refl, room₁ .0), tt))) tt (id⊢ 𝓤 _) (λ v. v ≡ verdict) (λ v e. id⊢ 𝓤 _)
-        (and-then ! (lit ! tt) (and-then ! (load ! (from ! (stop !)) (look ! 27 refl)) (and-then ! (load ! (from ! (stop !)) (look ! 25 refl)) (no-more !)))) (λ v e gv.
-        land ! (from ! (stop !)) (init ! 30 refl (EL.lawful J.the-type J′.the-laws 𝓤 H A W tt .typed v _ gv .0)) $
-        call-passes ! at-mem run fm (known .passes) v gv (and-then ! (load ! (from ! (stop !)) (look ! 31 refl)) (no-more !)) (λ c e-c.
-        land ! (from ! (stop !)) (init ! 22 refl (tt, tt)) $
-        first ! $ branches ! (load ! (from ! (stop !)) (look ! 22 refl))
-        (λ it. forget ! 30 refl $ forget ! 26 refl $ forget ! 24 refl $ forget ! 22 refl $ goes l₀ l₁ l₂ l₃ l₄ l₅ l₆ l₇ l₈ l₉ l₁₀ l₁₁ l₁₂ l₁₃ l₁₄ l₁₅ (ap passes (sym e) ∙ sym e-c ∙ is-true c it))
-        (λ not-it. skips ! $ exec ! C Λ (En l₀ l₁ l₂ l₃ l₄ l₅ l₆ l₇ l₈ l₉ l₁₀ l₁₁ l₁₂ l₁₃ l₁₄ l₁₅) m.t-6 (atRet (En l₀ l₁ l₂ l₃ l₄ l₅ l₆ l₇ l₈ l₉ l₁₀ l₁₁ l₁₂ l₁₃ l₁₄ l₁₅) Post) $ forget ! 26 refl $ forget ! 24 refl $ forget ! 22 refl $ refuses l₀ l₁ l₂ l₃ l₄ l₅ l₆ l₇ l₈ l₉ l₁₀ l₁₁ l₁₂ l₁₃ l₁₄ l₁₅ v e (sym e-c ∙ is-false c not-it) gv)))))))))))))))))))
+        ((replayRecords narrow), (length (sheet .now), (length (rules .now), tt))) (vint w64 1023 ∷ [], (vint w64 (length (sheet .now)) ∷ [], (vint w64 (length (rules .now)) ∷ [], tt))) ((refl, lit< tt), ((refl, room₀ .0), ((refl, room₁ .0), tt))) tt (id⊢ 𝓤 _) (λ v. v ≡ verdict) (λ v e. id⊢ 𝓤 _)
+        (and-then ! (lit ! tt) (and-then ! (load ! (from ! (stop !)) (look ! 33 refl)) (and-then ! (load ! (from ! (stop !)) (look ! 31 refl)) (no-more !)))) (λ v e gv.
+        land ! (from ! (stop !)) (init ! 36 refl (EL.lawful J.the-type J′.the-laws 𝓤 H A W tt .typed v _ gv .0)) $
+        call-passes ! at-mem run fm (known .passes) v gv (and-then ! (load ! (from ! (stop !)) (look ! 37 refl)) (no-more !)) (λ c e-c.
+        land ! (from ! (stop !)) (init ! 28 refl (tt, tt)) $
+        first ! $ branches ! (load ! (from ! (stop !)) (look ! 28 refl))
+        (λ it. forget ! 36 refl $ forget ! 32 refl $ forget ! 30 refl $ forget ! 28 refl $ goes l₀ l₁ l₂ l₃ l₄ l₅ l₆ l₇ l₈ l₉ l₁₀ l₁₁ l₁₂ l₁₃ l₁₄ l₁₅ l₁₆ l₁₇ l₁₈ (ap passes (sym e) ∙ sym e-c ∙ is-true c it))
+        (λ not-it. skips ! $ exec ! C Λ (En l₀ l₁ l₂ l₃ l₄ l₅ l₆ l₇ l₈ l₉ l₁₀ l₁₁ l₁₂ l₁₃ l₁₄ l₁₅ l₁₆ l₁₇ l₁₈) m.t-6 (atRet (En l₀ l₁ l₂ l₃ l₄ l₅ l₆ l₇ l₈ l₉ l₁₀ l₁₁ l₁₂ l₁₃ l₁₄ l₁₅ l₁₆ l₁₇ l₁₈) Post) $ forget ! 32 refl $ forget ! 30 refl $ forget ! 28 refl $ refuses l₀ l₁ l₂ l₃ l₄ l₅ l₆ l₇ l₈ l₉ l₁₀ l₁₁ l₁₂ l₁₃ l₁₄ l₁₅ l₁₆ l₁₇ l₁₈ v e (sym e-c ∙ is-false c not-it) gv))))))))))))))))))))))
 
 module _ {M : Type 1} (𝓤 : URA M) (H : Heap 𝓤) (A : Atoms 𝓤) (W : Given 𝓤 H A) (at-mem : Memory → SProp 𝓤) (run : Routine → Fun 𝓤) where
   walks : (C : Calls 𝓤 H) (Λ : Loops 𝓤 H) → FmC 𝓤 H (W .laws) C → Known 𝓤 H A at-mem run C → Walks 𝓤 H A f.ended stayed (WpFn 𝓤 H C Λ code.function) (f.clauses 𝓤 H A at-mem run)
@@ -211,5 +235,7 @@ replay-spec 𝓤 H 𝓜 𝓖 𝓡 =
       passes = cited 𝓤 H (Passes 𝓤 H (𝓖 .A) (𝓜 .mem) (𝓡 .run)) 𝓜 𝓡 code.env #passes passes-def.routine code.calls-replay-answer·passes (passes-thm.met 𝓤 H 𝓜 𝓖 𝓡);
       clear = cited 𝓤 H (Clear 𝓤 H (𝓖 .A) (𝓜 .mem) (𝓡 .run)) 𝓜 𝓡 code.env #clear clear-def.routine code.calls-replay-row·clear (clear-thm.met 𝓤 H 𝓜 𝓖 𝓡);
       runs-it = cited 𝓤 H (Run 𝓤 H (𝓖 .A) (𝓜 .mem) (𝓡 .run)) 𝓜 𝓡 code.env #run run-def.routine code.calls-replay·run·run (run-thm.met 𝓤 H 𝓜 𝓖 𝓡);
-      refused = cited 𝓤 H (Refuses 𝓤 H (𝓖 .A) (𝓜 .mem) (𝓡 .run)) 𝓜 𝓡 code.env #refused refused-def.routine code.calls-replay-answer·refused (refused-thm.met 𝓤 H 𝓜 𝓖 𝓡);
+      nothing = cited 𝓤 H (Nothing 𝓤 H (𝓖 .A) (𝓜 .mem) (𝓡 .run)) 𝓜 𝓡 code.env #nothing nothing-def.routine code.calls-tally·nothing (nothing-thm.met 𝓤 H 𝓜 𝓖 𝓡);
+      nowhere = cited 𝓤 H (Nowhere 𝓤 H (𝓖 .A) (𝓜 .mem) (𝓡 .run)) 𝓜 𝓡 code.env #nowhere nowhere-def.routine code.calls-replay-slots·nowhere (nowhere-thm.met 𝓤 H 𝓜 𝓖 𝓡);
+      end = cited 𝓤 H (End 𝓤 H (𝓖 .A) (𝓜 .mem) (𝓡 .run)) 𝓜 𝓡 code.env #end end-def.routine code.calls-replay-answer·end (end-thm.met 𝓤 H 𝓜 𝓖 𝓡);
     }))

@@ -1,36 +1,34 @@
-use mathlib.Core.Path.{_≡_}
-use mathlib.Core.Bool.{Bool, true, false, cond}
-use mathlib.Core.List.{List}
-use Prim.Native.Nat.{ℕ, _-_}
-use lib.Dec.{ltb}
-use lib.ListN.{length}
-use borrow.Author.Tests.{lt-ltb, le-ltb}
-use Rattle.sheet.specs.declared.Reason.the-variants.{NotHeld}
-use Rattle.sheet.specs.Reasons.{numberOf}
-use Rattle.tally.specs.Tally.{Tally}
-use Rattle.replay_spec.specs.Slots.{Slot, holding, held, clauseHeld}
-use Rattle.replay_spec.specs.Step.{state}
-use Rattle.replay_spec.specs.Replay.{accepted, refused, ending}
-use Rattle.replay_slots.specs.Search.{Found, found, search}
-use Rattle.replay_answer.specs.Answers.{said}
+use Rattle.replay_spec.specs.Replay.{byLast}
+use Rattle.replay_answer.specs.Answers.{said, ended}
+use borrow.Author.Needs.{needs}
 use Rattle.replay_answer.proofs.end.Statement.{statement}
 use Rattle.replay_answer.proofs.end.Tie as tie
 
--- what a look for the last node has found is the end
-ends : (k count : ℕ) (t : Tally) (slots : List Slot) (last : Found) (b : Bool) → length slots ≡ count
-    → last ≡ search (holding (t .next - 1)) slots
-    → ltb (last .at) count ≡ b
-    → cond b (accepted (last .slot .clause) (t .next) (t .steps) (t .peak)) (refused (numberOf NotHeld) k) ≡ ending k (state t slots)
-unfolding ending search held clauseHeld
-ends k count t slots last b long e held = rw (← held, ← long, e)
+enum-known-verdict : tie.Need-enum-known-verdict
+enum-known-verdict c = search needs
 
 returns : tie.Need-returns
-unfolding said
-returns c = λ slots long e. ends _ _ _ slots (found _ _) true long e (lt-ltb _ _ (c .if1 .taken))
+unfolding said ended
+returns c = rw (c .before .verdict .given .1)
+
+enum-told : tie.Need-enum-told
+enum-told c = search needs
+
+enum-told-2 : tie.Need-enum-told-2
+enum-told-2 c = search needs
+
+enum-known-last : tie.Need-enum-known-last
+enum-known-last c = search needs
 
 returns-2 : tie.Need-returns-2
-unfolding said
-returns-2 c = λ slots long e. ends _ _ _ slots (found _ _) false long e (le-ltb _ _ (c .if1 .left))
+unfolding said ended byLast
+returns-2 c = rw (c .before .before .enum-told .given .1, c .enum-told2 .given .1)
+
+returns-3 : tie.Need-returns-3
+unfolding said ended byLast
+returns-3 c = rw (c .before .before .before .before .enum-told .given .1, c .before .before .last .given .1)
 
 pub end-spec : {M : Type 1} → statement M
-end-spec = tie.close (tie.spec returns returns-2)
+end-spec =
+    tie.close
+    (tie.spec enum-known-verdict returns enum-told enum-told-2 enum-known-last returns-2 returns-3)

@@ -40,7 +40,7 @@ use denote.Triple.Spec.{Meets, tripleOf}
 use denote.Triple.Table.{entered, cited}
 use denote.Triple.Walked.{says, Stays, stay-dropped, walkOf, goes-dropped, ends-at, walked, walk-meets}
 use denote.Exit.{yes}
-use Rattle.sheet.specs.Editions.{narrow}
+use Rattle.sheet.specs.Editions.{narrow, recordBytes, replayRecords}
 use Rattle.tally.specs.Tally.{nothing as none-yet}
 use Rattle.replay_spec.specs.Slots.{empty, Slot as RowSlot}
 use Rattle.replay_spec.specs.Step.{state}
@@ -88,9 +88,9 @@ stayed = (stay-dropped (shrSliceOf (0 ∷ []) tt (plain (λ _. u8))) yes, (stay-
 
 -- what stands, by the number of records, of slots, and the slot's
 abbrev Seen : List ℕ → List ℕ → List RowSlot → ℕ → SlotNo → Looked
-Seen sheet rules row records j = lookAt (j .0) (afterRecords narrow rules sheet (state none-yet row) (min records (length sheet / 24)))
+Seen sheet rules row records j = lookAt (j .0) (afterRecords narrow rules sheet (state none-yet row) (min records (length sheet / recordBytes narrow)))
 
-answers : (n slots : ℕ) → n ≡ min slots 1023 → (sheet rules : List ℕ) (records : ℕ) (j : SlotNo) (s : Slot) → slotOf s ≡ empty → (r : Look) → lookOf r ≡ Seen sheet rules (rowOf (replicate n s)) records j → lookOf r ≡ Seen sheet rules (replicate (min slots 1023) empty) records j
+answers : (n slots : ℕ) → n ≡ min slots (replayRecords narrow) → (sheet rules : List ℕ) (records : ℕ) (j : SlotNo) (s : Slot) → slotOf s ≡ empty → (r : Look) → lookOf r ≡ Seen sheet rules (rowOf (replicate n s)) records j → lookOf r ≡ Seen sheet rules (replicate (min slots (replayRecords narrow)) empty) records j
 answers n slots e sheet rules records j s es r is =
     is ∙ ap (λ (l : List RowSlot). Seen sheet rules l records j) (row-replicate n s ∙ ap (replicate n) es ∙ ap (λ (k : ℕ). replicate k empty) e)
 
@@ -112,7 +112,7 @@ module _ {M : Type 1} (𝓤 : URA M) (H : Heap 𝓤) (A : Atoms 𝓤) (W : Given
   abbrev Post : Val → SProp 𝓤
   Post = walkOf 𝓤 H A f.ended stayed (f.clauses 𝓤 H A at-mem run) .post (((sheet .life, (rules .life, tt)), (sheet .share, (rules .share, tt)), tt, x, at), tt)
 
-  exits : (r : Look) → lookOf r ≡ Seen (sheet .now) (rules .now) (replicate (min slots 1023) empty) records j → Is R.the-row r (look-val r ∷ []) → ent 𝓤 (⋆ 𝓤 H A (‵ (flft (sheet .life) (sheet .share)) ∷ ‵ (flft (rules .life) (rules .share)) ∷ [])) (Post (look-val r))
+  exits : (r : Look) → lookOf r ≡ Seen (sheet .now) (rules .now) (replicate (min slots (replayRecords narrow)) empty) records j → Is R.the-row r (look-val r ∷ []) → ent 𝓤 (⋆ 𝓤 H A (‵ (flft (sheet .life) (sheet .share)) ∷ ‵ (flft (rules .life) (rules .share)) ∷ [])) (Post (look-val r))
   exits r e g =
       qed W (‵ (flft (sheet .life) (sheet .share)) ∷ ‵ (flft (rules .life) (rules .share)) ∷ []) ∵
       suffices ! _ (ends-at 𝓤 H A f.ended stayed (f.clauses 𝓤 H A at-mem run) W (((sheet .life, (rules .life, tt)), (sheet .share, (rules .share, tt)), tt, x, at), tt) (look-val r) r (tt, (tt, (tt, (tt, (tt, tt))))) (tt, (tt, (tt, (tt, (tt, tt)))))) $ says ! e $
@@ -129,13 +129,13 @@ module _ {M : Type 1} (𝓤 : URA M) (H : Heap 𝓤) (A : Atoms 𝓤) (W : Given
         call-plain ! fm empty′.ended (empty′.clauses 𝓤 H A at-mem run) known-empty tt tt tt (id⊢ 𝓤 _) tt sv (LL.tells T.the-type T′.the-laws) tt tt tt tt (id⊢ 𝓤 _) (λ s. slotOf s ≡ empty) (λ s e. id⊢ 𝓤 _) (no-more !) (λ s es is.
         land ! (from ! (stop !)) (init ! 8 refl (LL.lawful T.the-type T′.the-laws 𝓤 H A W .typed s _ is .0)) $
         -- the array is written whole
-        assigns ! (rep ! 1023 (load ! (from ! (stop !)) (look ! 8 refl))) (from ! (stop !)) (init ! 6 refl (array-lawful 𝓤 H A W T.the-row (LL.lawful T.the-type T′.the-laws 𝓤 H A W) 1023 .typed (replicate 1023 s) _ (repeat-is T.the-row 1023 s (sv s) is) .0)) $
-        call-plain ! fm enough′.ended (enough′.clauses 𝓤 H A at-mem run) known-enough tt tt tt (id⊢ 𝓤 _) (uint-makes 𝓤 H A W w64, tt) (vint w64) (uint-tells w64) (slots, tt) (vint w64 slots ∷ [], tt) ((refl, gs), tt) tt (id⊢ 𝓤 _) (λ n. n ≡ min slots 1023) (λ n e. id⊢ 𝓤 _)
+        assigns ! (rep ! 1023 (load ! (from ! (stop !)) (look ! 8 refl))) (from ! (stop !)) (init ! 6 refl (array-lawful 𝓤 H A W T.the-row (LL.lawful T.the-type T′.the-laws 𝓤 H A W) (replayRecords narrow) .typed (replicate (replayRecords narrow) s) _ (repeat-is T.the-row (replayRecords narrow) s (sv s) is) .0)) $
+        call-plain ! fm enough′.ended (enough′.clauses 𝓤 H A at-mem run) known-enough tt tt tt (id⊢ 𝓤 _) (uint-makes 𝓤 H A W w64, tt) (vint w64) (uint-tells w64) (slots, tt) (vint w64 slots ∷ [], tt) ((refl, gs), tt) tt (id⊢ 𝓤 _) (λ n. n ≡ min slots (replayRecords narrow)) (λ n e. id⊢ 𝓤 _)
         (and-then ! (load ! (from ! (stop !)) (look ! 15 refl)) (no-more !)) (λ n en gn.
         land ! (from ! (stop !)) (init ! 4 refl (tt, record { fits = gn .1 })) $
         -- its first n are a row
         owned ! T.the-row (Is T.the-row) (LL.makes T.the-type T′.the-plain 𝓤 H A) s (sv s ∷ []) is $ move ! (7 ∷ 0 ∷ []) $
-        array-part ! T.the-row tt (LL.copy T.the-type T′.the-copy 𝓤 H A W) 1023 n (n≤ n slots en) s (sv s) l₇ {τ = tyAt (code.function .locals) 7} refl $
+        array-part ! T.the-row tt (LL.copy T.the-type T′.the-copy 𝓤 H A W) (replayRecords narrow) n (n≤ n slots en) s (sv s) l₇ {τ = tyAt (code.function .locals) 7} refl $
         -- [the row 0; the others 1; _10 at 2; _9 4; _8 6; that _7 dies 8; _6 9; _5 11; _4 13; _3 15; _2 17; _1 19; _0 21; the tokens 23; what the parameters own 24]
         assigns ! (addr ! (from ! (stop !))) (from ! (stop !)) (init ! 4 refl (tt, tt)) $
         assigns ! (agg ! (and-then ! (load ! (from ! (stop !)) (look ! 4 refl)) (and-then ! (load ! (from ! (stop !)) (look ! 6 refl)) (no-more !)))) (from ! (stop !)) (init ! 2 refl (tt, (tt, (record { fits = gn .1 }, tt)))) $
@@ -147,7 +147,7 @@ module _ {M : Type 1} (𝓤 : URA M) (H : Heap 𝓤) (A : Atoms 𝓤) (W : Given
         (λ ν δ. and-then ! (load ! (from ! (stop !)) (look ! 20 refl)) (and-then ! (load ! (from ! (stop !)) (look ! 18 refl)) (and-then ! (load ! (from ! (stop !)) (look ! 3 refl)) (and-then ! (load ! (from ! (stop !)) (look ! 14 refl)) (and-then ! (load ! (from ! (stop !)) (look ! 12 refl)) (no-more !)))))) (λ r zs len e gr.
         -- [the row 0; the tokens 1, 2; the others 3; _10 at 4; …; _0 23]
         land ! (from ! (stop !)) (init ! 23 refl (LL.lawful R.the-type R′.the-laws 𝓤 H A W .typed r (look-val r ∷ []) gr .0)) $
-        move ! (0 ∷ 3 ∷ []) $ part-array ! T.the-row 1023 n (n≤ n slots en) s zs (len ∙ length-replicate n s) l₇ {τ = tyAt (code.function .locals) 7} refl (λ v.
+        move ! (0 ∷ 3 ∷ []) $ part-array ! T.the-row (replayRecords narrow) n (n≤ n slots en) s zs (len ∙ length-replicate n s) l₇ {τ = tyAt (code.function .locals) 7} refl (λ v.
         -- [_7 at 0; the tokens 1, 2; _10 at 3; _9 5; _8 7; that _7 dies 9; _6 10; _5 12; _4 14; _3 16; _2 18; _1 20; _0 22]
         returns ! (look ! 22 refl) $ lays ! 8 $ leaves ! 2 (code.function .locals) (l₀ ∷ l₁ ∷ l₂ ∷ l₃ ∷ l₄ ∷ l₅ ∷ l₆ ∷ l₇ ∷ l₈ ∷ l₉ ∷ l₁₀ ∷ []) (some _ ∷ some _ ∷ some _ ∷ some _ ∷ some _ ∷ some _ ∷ some _ ∷ some _ ∷ some _ ∷ some _ ∷ some _ ∷ []) refl $ by ! (exits r (answers n slots en (sheet .now) (rules .now) records j s es r e) gr))))))))))))))))
 

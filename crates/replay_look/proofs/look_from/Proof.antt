@@ -52,7 +52,7 @@ use Rattle.lending.proofs.Locals.{envOf, localsOf, tyAt, past, tail}
 use Rattle.lending.proofs.Parts.{lent-of, lent-val, Lent}
 use Rattle.lending.proofs.Rows.{room-at, lendable, settled}
 use Rattle.sheet.specs.declared.SlotNo.{SlotNo}
-use Rattle.sheet.specs.Editions.{narrow}
+use Rattle.sheet.specs.Editions.{narrow, recordBytes}
 use Rattle.sheet.specs.Fields.{recordAt}
 use Rattle.sheet.proofs.RecordNo as R
 use Rattle.sheet.proofs.RecordNo.Laws as R′
@@ -156,13 +156,13 @@ module _ {M : Type 1} (𝓤 : URA M) (H : Heap 𝓤) (A : Atoms 𝓤) (W : Given
   abbrev Post : Val → SProp 𝓤
   Post = walkOf 𝓤 H A f.ended stayed (f.clauses 𝓤 H A at-mem run) .post entry
 
-  exits : (zs : List Slot) (r : Look) → length zs ≡ length (slots .now) → lookOf r ≡ lookAt (j .0) (afterRecords narrow (rules .now) (sheet .now) s₀ (min records (length (sheet .now) / 24))) → Is L.the-row r (look-val r ∷ []) → ent 𝓤 (⋆ 𝓤 H A (Closed 𝓤 sheet rules slots zs [])) (Post (look-val r))
+  exits : (zs : List Slot) (r : Look) → length zs ≡ length (slots .now) → lookOf r ≡ lookAt (j .0) (afterRecords narrow (rules .now) (sheet .now) s₀ (min records (length (sheet .now) / recordBytes narrow))) → Is L.the-row r (look-val r ∷ []) → ent 𝓤 (⋆ 𝓤 H A (Closed 𝓤 sheet rules slots zs [])) (Post (look-val r))
   exits zs r same e gr =
       qed W (Closed 𝓤 sheet rules slots zs []) ∵
       suffices ! _ (ends-at 𝓤 H A f.ended stayed (f.clauses 𝓤 H A at-mem run) W entry (look-val r) r (tt, (tt, (zs, (tt, (tt, tt))))) (tt, (tt, (same, (tt, (tt, tt)))))) $
       says ! e $ by ! (ends-with-row 𝓤 H A W sheet rules slots zs same room (fsep ftrue (fsep ftrue ftrue)) (qed W [] ∵ nothing ! $ nothing ! $ fjoin ! $ nothing ! $ fjoin ! $ done !) (LL.makes L.the-type L′.the-plain 𝓤 H A r (look-val r ∷ []) gr))
 
-  module _ (n : ℕ) (en : n ≡ min records (length (sheet .now) / 24)) where
+  module _ (n : ℕ) (en : n ≡ min records (length (sheet .now) / recordBytes narrow)) where
     -- how far the loop has come
     record Upto : Type 0 where
       k : ℕ
@@ -217,7 +217,7 @@ module _ {M : Type 1} (𝓤 : URA M) (H : Heap 𝓤) (A : Atoms 𝓤) (W : Given
             move ! (0 ∷ 6 ∷ 7 ∷ 8 ∷ []) $ closes-slice ! tt T.the-row (slots .now) (i .zs) (i .same) (slots .b) (slots .o) $
             -- [obs 0; the borrow 1; the token 2; the tally's cell 3; sheet's token 4; rules's 5; what sheet owns; what rules owns; locals]
             move ! (3 ∷ []) $ move ! (6 ∷ []) $ drop ! $ move ! (6 ∷ []) $ drop ! $ returns ! (look ! 55 refl) $
-            lays ! 41 $ leaves ! 5 (code.function .locals) bs (some _ ∷ some _ ∷ some _ ∷ some _ ∷ some _ ∷ some _ ∷ some _ ∷ some _ ∷ some _ ∷ some _ ∷ none ∷ none ∷ none ∷ some _ ∷ none ∷ none ∷ none ∷ none ∷ none ∷ none ∷ none ∷ none ∷ none ∷ some _ ∷ some _ ∷ some _ ∷ []) refl $ by ! (exits (i .zs) (look-of (i .a) (i .t) s) (i .same) (sees (rules .now) (sheet .now) s₀ (i .k) (min records (length (sheet .now) / 24)) (j .0) (i .a) (i .t) (i .zs) s (i .stands) (le-antisymm (i .few) over ∙ en) e-s) (look-is s gs)))
+            lays ! 41 $ leaves ! 5 (code.function .locals) bs (some _ ∷ some _ ∷ some _ ∷ some _ ∷ some _ ∷ some _ ∷ some _ ∷ some _ ∷ some _ ∷ some _ ∷ none ∷ none ∷ none ∷ some _ ∷ none ∷ none ∷ none ∷ none ∷ none ∷ none ∷ none ∷ none ∷ none ∷ some _ ∷ some _ ∷ some _ ∷ []) refl $ by ! (exits (i .zs) (look-of (i .a) (i .t) s) (i .same) (sees (rules .now) (sheet .now) s₀ (i .k) (min records (length (sheet .now) / recordBytes narrow)) (j .0) (i .a) (i .t) (i .zs) s (i .stands) (le-antisymm (i .few) over ∙ en) e-s) (look-is s gs)))
           where
             look-is : (s : Slot) → Is T.the-row s (sv s ∷ []) → Is L.the-row (look-of (i .a) (i .t) s) (look-val (look-of (i .a) (i .t) s) ∷ [])
             look-is s gs = LL.owes L.the-type L′.the-laws (look-of (i .a) (i .t) s) (i .ga, (gt, (gs, tt)))
@@ -235,7 +235,7 @@ module _ {M : Type 1} (𝓤 : URA M) (H : Heap 𝓤) (A : Atoms 𝓤) (W : Given
             assigns ! (bin ! (load ! (from ! (stop !)) (look ! 37 refl)) (load ! (from ! (stop !)) (look ! 39 refl)) (at-end (i .k))) (from ! (stop !)) (init ! 21 refl (tt, record { fits = part-fits (length (sheet .now)) (i .k) (room₀ .0) inside })) $
             assigns ! (addr ! (from ! (hop ! (look ! 23 refl) (stop !)))) (from ! (stop !)) (init ! 19 refl (tt, tt)) $
             assigns ! (agg ! (and-then ! (load ! (from ! (stop !)) (look ! 19 refl)) (and-then ! (load ! (from ! (stop !)) (look ! 21 refl)) (no-more !)))) (from ! (stop !)) (init ! 17 refl (tt, (tt, (record { fits = part-fits (length (sheet .now)) (i .k) (room₀ .0) inside }, tt)))) $
-            rewrite ! 17 (λ (d : ℕ). ‵ (fat fullShare (tyAt (code.function .locals) 21) l₂₁ 0 (sliceVal (sheet .b, 24 * i .k + sheet .o) d))) (part-count (sheet .now) (24 * i .k) (24 * i .k + 24) (at-end (i .k), record-inside (i .k) (length (sheet .now)) inside)) refl $
+            rewrite ! 17 (λ (d : ℕ). ‵ (fat fullShare (tyAt (code.function .locals) 21) l₂₁ 0 (sliceVal (sheet .b, recordBytes narrow * i .k + sheet .o) d))) (part-count (sheet .now) (recordBytes narrow * i .k) (recordBytes narrow * i .k + recordBytes narrow) (at-end (i .k), record-inside (i .k) (length (sheet .now)) inside)) refl $
             assigns ! (agg ! (and-then ! (load ! (from ! (stop !)) (look ! 41 refl)) (no-more !))) (from ! (stop !)) (init ! 15 refl (LL.lawful R.the-type R′.the-laws 𝓤 H A W .typed (number (i .k)) _ (number-is (i .k) (number-fits (length (sheet .now)) (i .k) (room₀ .0) inside)) .0)) $
             call-step-at ! at-mem run fm (known .step) sheet rules (i .k) room₀ inside (i .zs) (i .t) (slots .b) (slots .o) l₇ 0 (room-at T.the-row (i .same) room)
             (λ γ ν δ ν′ δ′. (and-then ! (load ! (from ! (stop !)) (look ! 26 refl)) (and-then ! (load ! (from ! (stop !)) (look ! 24 refl)) (and-then ! (load ! (from ! (stop !)) (look ! 53 refl)) (and-then ! (load ! (from ! (stop !)) (look ! 16 refl)) (and-then ! (load ! (from ! (stop !)) (look ! 14 refl)) (no-more !))))))) (λ r zs t same e gr.
@@ -247,7 +247,7 @@ module _ {M : Type 1} (𝓤 : URA M) (H : Heap 𝓤) (A : Atoms 𝓤) (W : Given
             (record { k = i .k + 1; zs = zs; t = t; a = r; few = add-one-le less; same = same ∙ i .same; ga = gr; stands = stands-on (rules .now) (sheet .now) s₀ (i .k) (saidOfStep (i .a)) (state (tallyOf (i .t)) (rowOf (i .zs))) (saidOfStep r) (state (tallyOf t) (rowOf zs)) (i .stands) e })
             (add-one-dec n (i .k) less))
           where
-            inside : i .k < length (sheet .now) / 24
+            inside : i .k < length (sheet .now) / recordBytes narrow
             inside = omega (arith, less, en)
 
             next-fits : i .k + 1 < 2 ^ 64
@@ -276,7 +276,7 @@ module _ {M : Type 1} (𝓤 : URA M) (H : Heap 𝓤) (A : Atoms 𝓤) (W : Given
       pass1 ! (init ! 42 refl (tt, record { fits = g-records })) $ pass1 ! (init ! 40 refl (LL.lawful N.the-type N′.the-laws 𝓤 H A W .typed j _ gj .0)) $ pass0 ! $
       move ! (52 ∷ 53 ∷ []) $ opens-with-row ! tt sheet rules slots $
       assigns ! (of-opd ! (load ! (from ! (fld ! refl (stop !))) (look-in ! 56 (sub ! 1 refl (whole !))))) (from ! (stop !)) (init ! 34 refl (tt, record { fits = room₀ .0 })) $
-      call-plain ! (fmOf 𝓤 H (W .laws) 𝓣) upto′.ended (upto′.clauses 𝓤 H A at-mem run) (known .upto) tt tt tt (id⊢ 𝓤 _) (uint-makes 𝓤 H A W w64, (uint-makes 𝓤 H A W w64, tt)) (vint w64) (uint-tells w64) (records, (length (sheet .now), tt)) (vint w64 records ∷ [], (vint w64 (length (sheet .now)) ∷ [], tt)) ((refl, g-records), ((refl, room₀ .0), tt)) tt (id⊢ 𝓤 _) (λ n. n ≡ min records (length (sheet .now) / 24)) (λ n e. id⊢ 𝓤 _)
+      call-plain ! (fmOf 𝓤 H (W .laws) 𝓣) upto′.ended (upto′.clauses 𝓤 H A at-mem run) (known .upto) tt tt tt (id⊢ 𝓤 _) (uint-makes 𝓤 H A W w64, (uint-makes 𝓤 H A W w64, tt)) (vint w64) (uint-tells w64) (records, (length (sheet .now), tt)) (vint w64 records ∷ [], (vint w64 (length (sheet .now)) ∷ [], tt)) ((refl, g-records), ((refl, room₀ .0), tt)) tt (id⊢ 𝓤 _) (λ n. n ≡ min records (length (sheet .now) / recordBytes narrow)) (λ n e. id⊢ 𝓤 _)
       (and-then ! (load ! (from ! (stop !)) (look ! 51 refl)) (and-then ! (load ! (from ! (stop !)) (look ! 35 refl)) (no-more !))) (λ n en gn.
       land ! (from ! (stop !)) (init ! 46 refl (tt, record { fits = gn .1 })) $
       call-nothing ! at-mem run (fmOf 𝓤 H (W .laws) 𝓣) (known .nothing) (no-more !) (λ t e gt.

@@ -41,7 +41,7 @@ use denote.Triple.Table.{entered, cited}
 use denote.Triple.Walked.{says, Stays, stay-dropped, walkOf, goes-dropped, ends-at, walked, walk-meets}
 use denote.Exit.{yes}
 use Rattle.replay_spec.proofs.Plenty.{replay-at-most}
-use Rattle.sheet.specs.Editions.{narrow}
+use Rattle.sheet.specs.Editions.{narrow, replayRecords}
 use Rattle.replay_spec.specs.Slots.{empty, Slot as RowSlot}
 use Rattle.replay_spec.specs.Replay.{Outcome, outcome, replay as replayed}
 use Rattle.replay_slots.specs.Said.{slotOf, rowOf}
@@ -85,7 +85,7 @@ stayed = (stay-dropped (shrSliceOf (0 ∷ []) tt (plain (λ _. u8))) yes, (stay-
 abbrev av : ReplayAnswer → Val
 av = EL.val R.the-type R′.the-laws
 
-module _ (n : ℕ) (slots : ℕ) (e : n ≡ min slots 1023) where
+module _ (n : ℕ) (slots : ℕ) (e : n ≡ min slots (replayRecords narrow)) where
   answers : (sheet rules : List ℕ) (s : Slot) → slotOf s ≡ empty → (r : ReplayAnswer) (zs : List Slot) → outcome (said r) (rowOf zs) ≡ replayed narrow sheet rules (rowOf (replicate n s)) → said r ≡ replayed narrow sheet rules (replicate slots empty) .answer
   answers sheet rules s es r zs is =
       ap (λ (o : Outcome). o .answer) is
@@ -127,13 +127,13 @@ module _ {M : Type 1} (𝓤 : URA M) (H : Heap 𝓤) (A : Atoms 𝓤) (W : Given
         call-plain ! fm empty′.ended (empty′.clauses 𝓤 H A at-mem run) known-empty tt tt tt (id⊢ 𝓤 _) tt sv (LL.tells T.the-type T′.the-laws) tt tt tt tt (id⊢ 𝓤 _) (λ s. slotOf s ≡ empty) (λ s e. id⊢ 𝓤 _) (no-more !) (λ s es is.
         land ! (from ! (stop !)) (init ! 8 refl (LL.lawful T.the-type T′.the-laws 𝓤 H A W .typed s _ is .0)) $
         -- the array is written whole
-        assigns ! (rep ! 1023 (load ! (from ! (stop !)) (look ! 8 refl))) (from ! (stop !)) (init ! 6 refl (array-lawful 𝓤 H A W T.the-row (LL.lawful T.the-type T′.the-laws 𝓤 H A W) 1023 .typed (replicate 1023 s) _ (repeat-is T.the-row 1023 s (sv s) is) .0)) $
-        call-plain ! fm enough′.ended (enough′.clauses 𝓤 H A at-mem run) known-enough tt tt tt (id⊢ 𝓤 _) (uint-makes 𝓤 H A W w64, tt) (vint w64) (uint-tells w64) (slots, tt) (vint w64 slots ∷ [], tt) ((refl, gs), tt) tt (id⊢ 𝓤 _) (λ n. n ≡ min slots 1023) (λ n e. id⊢ 𝓤 _)
+        assigns ! (rep ! 1023 (load ! (from ! (stop !)) (look ! 8 refl))) (from ! (stop !)) (init ! 6 refl (array-lawful 𝓤 H A W T.the-row (LL.lawful T.the-type T′.the-laws 𝓤 H A W) (replayRecords narrow) .typed (replicate (replayRecords narrow) s) _ (repeat-is T.the-row (replayRecords narrow) s (sv s) is) .0)) $
+        call-plain ! fm enough′.ended (enough′.clauses 𝓤 H A at-mem run) known-enough tt tt tt (id⊢ 𝓤 _) (uint-makes 𝓤 H A W w64, tt) (vint w64) (uint-tells w64) (slots, tt) (vint w64 slots ∷ [], tt) ((refl, gs), tt) tt (id⊢ 𝓤 _) (λ n. n ≡ min slots (replayRecords narrow)) (λ n e. id⊢ 𝓤 _)
         (and-then ! (load ! (from ! (stop !)) (look ! 11 refl)) (no-more !)) (λ n en gn.
         land ! (from ! (stop !)) (init ! 4 refl (tt, record { fits = gn .1 })) $
         -- its first n are a row
         owned ! T.the-row (Is T.the-row) (LL.makes T.the-type T′.the-plain 𝓤 H A) s (sv s ∷ []) is $ move ! (7 ∷ 0 ∷ []) $
-        array-part ! T.the-row tt (LL.copy T.the-type T′.the-copy 𝓤 H A W) 1023 n (n≤ n slots en) s (sv s) l₅ {τ = tyAt (code.function .locals) 5} refl $
+        array-part ! T.the-row tt (LL.copy T.the-type T′.the-copy 𝓤 H A W) (replayRecords narrow) n (n≤ n slots en) s (sv s) l₅ {τ = tyAt (code.function .locals) 5} refl $
         -- [the row 0; the others 1; _8 at 2; _7 4; _6 6; that _5 dies 8; _4 9; _3 11; _2 13; _1 15; _0 17; the tokens 19; what the parameters own 20]
         assigns ! (addr ! (from ! (stop !))) (from ! (stop !)) (init ! 4 refl (tt, tt)) $
         assigns ! (agg ! (and-then ! (load ! (from ! (stop !)) (look ! 4 refl)) (and-then ! (load ! (from ! (stop !)) (look ! 6 refl)) (no-more !)))) (from ! (stop !)) (init ! 2 refl (tt, (tt, (record { fits = gn .1 }, tt)))) $
@@ -145,7 +145,7 @@ module _ {M : Type 1} (𝓤 : URA M) (H : Heap 𝓤) (A : Atoms 𝓤) (W : Given
         (λ ν δ. and-then ! (load ! (from ! (stop !)) (look ! 16 refl)) (and-then ! (load ! (from ! (stop !)) (look ! 14 refl)) (and-then ! (load ! (from ! (stop !)) (look ! 3 refl)) (no-more !)))) (λ r zs len e gr.
         -- [the row 0; the tokens 1, 2; the others 3; _8 at 4; …; _0 19]
         land ! (from ! (stop !)) (init ! 19 refl (EL.lawful R.the-type R′.the-laws 𝓤 H A W tt .typed r (av r ∷ []) gr .0)) $
-        move ! (0 ∷ 3 ∷ []) $ part-array ! T.the-row 1023 n (n≤ n slots en) s zs (len ∙ length-replicate n s) l₅ {τ = tyAt (code.function .locals) 5} refl (λ v.
+        move ! (0 ∷ 3 ∷ []) $ part-array ! T.the-row (replayRecords narrow) n (n≤ n slots en) s zs (len ∙ length-replicate n s) l₅ {τ = tyAt (code.function .locals) 5} refl (λ v.
         -- [_5 at 0; the tokens 1, 2; _8 at 3; _7 5; _6 7; that _5 dies 9; _4 10; _3 12; _2 14; _1 16; _0 18]
         returns ! (look ! 18 refl) $ lays ! 8 $ leaves ! 2 (code.function .locals) (l₀ ∷ l₁ ∷ l₂ ∷ l₃ ∷ l₄ ∷ l₅ ∷ l₆ ∷ l₇ ∷ l₈ ∷ []) (some _ ∷ some _ ∷ some _ ∷ some _ ∷ some _ ∷ some _ ∷ some _ ∷ some _ ∷ some _ ∷ []) refl $ by ! (exits r (answers n slots en (sheet .now) (rules .now) s es r zs e) gr))))))))))))))
 

@@ -50,65 +50,61 @@ use Rattle.lending.proofs.Lends.{passed, Tokens, Opened, Closed, opens-with-row
 use Rattle.lending.proofs.Locals.{envOf, localsOf, tyAt, past, tail}
 use Rattle.lending.proofs.Parts.{lent-of, lent-val, Lent}
 use Rattle.lending.proofs.Rows.{room-at, lendable, settled}
+use Rattle.sheet.specs.declared.RecordNo.{RecordNo}
+use Rattle.sheet.specs.declared.Verdict.{Verdict}
 use Rattle.sheet.specs.declared.Verdict.the-variants.{Fine}
+use Rattle.sheet.specs.Editions.{narrow, recordBytes, replayRecords}
 use Rattle.sheet.specs.Checks.{checkLengths}
-use Rattle.sheet.specs.Editions.{narrow, replayRecords}
-use Rattle.sheet.proofs.NodeNo as N
-use Rattle.sheet.proofs.NodeNo.Laws as N′
 use Rattle.sheet.proofs.RecordNo as R
 use Rattle.sheet.proofs.RecordNo.Laws as R′
+use Rattle.sheet.proofs.Verdict as J
+use Rattle.sheet.proofs.Verdict.Laws as J′
+use Rattle.sheet.proofs.RecordBytes.{lent}
+use Rattle.tally.specs.declared.Tally.{Tally}
 use Rattle.tally.specs.Tally.{nothing as none-yet}
 use Rattle.tally.specs.Said.{tallyOf}
-use Rattle.replay_spec.specs.Slots.{holding}
-use Rattle.replay_spec.specs.Step.{State, state}
-use Rattle.replay_spec.specs.Replay.{run as runs-to}
-use Rattle.replay_slots.specs.declared.Slot.{Slot}
-use Rattle.tally.specs.declared.Tally.{Tally}
-use Rattle.replay_slots.specs.declared.StepAnswer.{StepAnswer}
-use Rattle.replay_slots.specs.declared.Sought.the-variants.{Node}
-use Rattle.replay_slots.specs.Search.{search}
-use Rattle.replay_slots.specs.Said.{saidOfStep, rowOf, soughtIn}
-use Rattle.replay_slots.proofs.Rows.{row-length}
-use Rattle.replay_slots.proofs.Slot as T
 use Rattle.tally.proofs.Tally as Y
 use Rattle.tally.proofs.Tally.Laws as Y′
-use Rattle.replay_slots.proofs.Sought as K
-use Rattle.replay_slots.proofs.Sought.Laws as K′
-use Rattle.replay_slots.proofs.Found as F
-use Rattle.replay_slots.proofs.Found.Laws as F′
-use Rattle.replay_slots.proofs.StepAnswer as S
-use Rattle.replay_slots.proofs.StepAnswer.Laws as S′
-use Rattle.replay_answer.specs.declared.ReplayAnswer.{ReplayAnswer}
-use Rattle.replay_answer.specs.Answers.{said}
-use Rattle.replay_answer.proofs.ReplayAnswer as B
-use Rattle.replay_answer.proofs.ReplayAnswer.Laws as B′
-use Rattle.replay_step.proofs.Values.{tally-val, step-val, answer-val, node-is}
-use Rattle.replay_row.proofs.Prims.{Find, call-find}
-use Rattle.replay.proofs.Answers.{Nothing, Is-taken, Stopped, Last-of, End, call-nothing, call-taken, call-stopped, call-last, call-end}
-use Rattle.replay_step.proofs.Stepping.{number, number-is, call-step-at, Comes, Step}
-use Rattle.sheet.proofs.RecordBytes.{lent}
-use Rattle.replay_step.proofs.Going.{number-fits, Goes, goes-none, goes-all, goes-on, goes-no-more, record-inside, count-fits, at-fits, end-fits, part-fits, at-end}
 use Rattle.tally.proofs.nothing.Symbol as nothing-def
 use Rattle.tally.proofs.nothing.Symbol.{name as #nothing}
 use Rattle.tally.proofs.nothing.Met as nothing-thm
-use Rattle.replay_answer.proofs.is_taken.Symbol as taken-def
-use Rattle.replay_answer.proofs.is_taken.Symbol.{name as #taken}
-use Rattle.replay_answer.proofs.is_taken.Met as taken-thm
-use Rattle.replay_answer.proofs.stopped.Symbol as stopped-def
-use Rattle.replay_answer.proofs.stopped.Symbol.{name as #stopped}
-use Rattle.replay_answer.proofs.stopped.Met as stopped-thm
-use Rattle.replay_answer.proofs.last_of.Symbol as last-def
-use Rattle.replay_answer.proofs.last_of.Symbol.{name as #last}
-use Rattle.replay_answer.proofs.last_of.Met as last-thm
+use Rattle.replay_spec.specs.Slots.{Sought as RowSought, look as look-for}
+use Rattle.replay_spec.specs.Step.{State, state}
+use Rattle.replay_spec.specs.Replay.{run as runs-to}
+use Rattle.replay_slots.specs.declared.Slot.{Slot}
+use Rattle.replay_slots.specs.Said.{rowOf, placeOf}
+use Rattle.replay_slots.proofs.Slot as T
+use Rattle.replay_slots.proofs.Place as F
+use Rattle.replay_slots.proofs.Place.Laws as F′
+use Rattle.replay_slots.proofs.Sought as K
+use Rattle.replay_slots.proofs.Sought.Laws as K′
+use Rattle.replay_slots.proofs.nowhere.Symbol as nowhere-def
+use Rattle.replay_slots.proofs.nowhere.Symbol.{name as #nowhere}
+use Rattle.replay_slots.proofs.nowhere.Met as nowhere-thm
+use Rattle.replay_answer.specs.declared.ReplayAnswer.{ReplayAnswer}
+use Rattle.replay_answer.specs.Answers.{said, ended}
+use Rattle.replay_answer.proofs.ReplayAnswer as B
+use Rattle.replay_answer.proofs.ReplayAnswer.Laws as B′
+use Rattle.replay_answer.proofs.passes.Symbol as passes-def
+use Rattle.replay_answer.proofs.passes.Symbol.{name as #passes}
+use Rattle.replay_answer.proofs.passes.Met as passes-thm
+use Rattle.replay_answer.proofs.last_sought.Symbol as last-def
+use Rattle.replay_answer.proofs.last_sought.Symbol.{name as #last}
+use Rattle.replay_answer.proofs.last_sought.Met as last-thm
 use Rattle.replay_answer.proofs.end.Symbol as end-def
 use Rattle.replay_answer.proofs.end.Symbol.{name as #end}
 use Rattle.replay_answer.proofs.end.Met as end-thm
-use Rattle.replay_step.proofs.step.Symbol as step-def
-use Rattle.replay_step.proofs.step.Symbol.{name as #step}
-use Rattle.replay_step.proofs.step.Met as step-thm
+use Rattle.replay_row.proofs.Prims.{Find, call-find}
 use Rattle.replay_row.proofs.find.Symbol as find-def
 use Rattle.replay_row.proofs.find.Symbol.{name as #find}
 use Rattle.replay_row.proofs.find.Met as find-thm
+use Rattle.replay_step.proofs.Values.{tally-val, verdict-val, answer-val, record-val}
+use Rattle.replay_step.proofs.Stepping.{number, number-is, Takes, Take, call-take-at}
+use Rattle.replay_step.proofs.Going.{number-fits, Goes, goes-none, goes-all, next-fits, goes-on, goes-no-more, record-inside, count-fits, at-fits, end-fits, part-fits, at-end}
+use Rattle.replay_step.proofs.take.Symbol as take-def
+use Rattle.replay_step.proofs.take.Symbol.{name as #take}
+use Rattle.replay_step.proofs.take.Met as take-thm
+use Rattle.replay.proofs.Answers.{Nothing, Nowhere, Passes, Last-sought, End, call-nothing, call-nowhere, call-passes, call-last, call-end}
 use Rattle.replay.proofs.run.run.Key.{name as #key}
 use Rattle.replay.proofs.run.run as f
 use Rattle.replay.proofs.run.run.Statement as stated
@@ -119,21 +115,24 @@ use Rattle.replay.proofs.run.run.Code.Mir as m
 abbrev stayed : Stays (f.ended .signature .params) (f.ended .kept)
 stayed = (stay-dropped (shrSliceOf (0 ∷ []) tt (plain (λ _. u8))) yes, (stay-dropped (shrSliceOf (1 ∷ []) tt (plain (λ _. u8))) yes, (stay-slice (2 ∷ []) tt (plain (λ _. T.the-row)), tt)))
 
+fine-is : Is J.the-row Fine (verdict-val Fine ∷ [])
+fine-is = EL.owes J.the-type J′.the-laws Fine tt
+
 -- what is called
 module _ {M : Type 1} (𝓤 : URA M) (H : Heap 𝓤) (A : Atoms 𝓤) (at-mem : Memory → SProp 𝓤) (run : Routine → Fun 𝓤) where
   record Known (C : Calls 𝓤 H) : Type 1 where
     nothing : Triple 𝓤 (C #nothing) (Nothing 𝓤 H A at-mem run)
-    step : Triple 𝓤 (C #step) (Step 𝓤 H A at-mem run)
-    taken : Triple 𝓤 (C #taken) (Is-taken 𝓤 H A at-mem run)
-    stopped : Triple 𝓤 (C #stopped) (Stopped 𝓤 H A at-mem run)
-    last : Triple 𝓤 (C #last) (Last-of 𝓤 H A at-mem run)
+    take : Triple 𝓤 (C #take) (Take 𝓤 H A at-mem run)
+    passes : Triple 𝓤 (C #passes) (Passes 𝓤 H A at-mem run)
+    nowhere : Triple 𝓤 (C #nowhere) (Nowhere 𝓤 H A at-mem run)
+    last : Triple 𝓤 (C #last) (Last-sought 𝓤 H A at-mem run)
     find : Triple 𝓤 (C #find) (Find 𝓤 H A at-mem run)
     end : Triple 𝓤 (C #end) (End 𝓤 H A at-mem run)
 
 module _ {M : Type 1} (𝓤 : URA M) (H : Heap 𝓤) (A : Atoms 𝓤) (W : Given 𝓤 H A) (at-mem : Memory → SProp 𝓤) (run : Routine → Fun 𝓤) (sheet rules : Lent u8) (slots : Lent T.the-row)
     (room₀ : Room u8 (length (sheet .now))) (room₁ : Room u8 (length (rules .now))) (room : Room T.the-row (length (slots .now))) (fine : checkLengths narrow (replayRecords narrow) (length (sheet .now)) (length (rules .now)) ≡ Fine) where
   abbrev n : ℕ
-  n = length (sheet .now) / 24
+  n = length (sheet .now) / recordBytes narrow
 
   abbrev s₀ : State
   s₀ = state none-yet (rowOf (slots .now))
@@ -165,9 +164,9 @@ module _ {M : Type 1} (𝓤 : URA M) (H : Heap 𝓤) (A : Atoms 𝓤) (W : Given
   Nearer-wf : WellFounded Nearer
   Nearer-wf = InvImage·wf (λ (i : Upto). n - i .k) (Nat·lt-wfRel .wf)
 
-  module _ (𝓣 : Tables 𝓤 H) (known : Known 𝓤 H A at-mem run (𝓣 .C)) (l₀ l₁ l₂ l₃ l₄ l₅ l₆ l₇ l₈ l₉ l₁₀ l₁₁ l₁₂ l₁₃ l₁₄ l₁₅ l₁₆ l₁₇ l₁₈ l₁₉ l₂₀ l₂₁ l₂₂ l₂₃ l₂₄ l₂₅ l₂₆ : ℕ) where
+  module _ (𝓣 : Tables 𝓤 H) (known : Known 𝓤 H A at-mem run (𝓣 .C)) (l₀ l₁ l₂ l₃ l₄ l₅ l₆ l₇ l₈ l₉ l₁₀ l₁₁ l₁₂ l₁₃ l₁₄ l₁₅ l₁₆ l₁₇ l₁₈ l₁₉ l₂₀ l₂₁ l₂₂ l₂₃ l₂₄ l₂₅ l₂₆ l₂₇ l₂₈ l₂₉ : ℕ) where
     abbrev bs : List ℕ
-    bs = l₀ ∷ l₁ ∷ l₂ ∷ l₃ ∷ l₄ ∷ l₅ ∷ l₆ ∷ l₇ ∷ l₈ ∷ l₉ ∷ l₁₀ ∷ l₁₁ ∷ l₁₂ ∷ l₁₃ ∷ l₁₄ ∷ l₁₅ ∷ l₁₆ ∷ l₁₇ ∷ l₁₈ ∷ l₁₉ ∷ l₂₀ ∷ l₂₁ ∷ l₂₂ ∷ l₂₃ ∷ l₂₄ ∷ l₂₅ ∷ l₂₆ ∷ []
+    bs = l₀ ∷ l₁ ∷ l₂ ∷ l₃ ∷ l₄ ∷ l₅ ∷ l₆ ∷ l₇ ∷ l₈ ∷ l₉ ∷ l₁₀ ∷ l₁₁ ∷ l₁₂ ∷ l₁₃ ∷ l₁₄ ∷ l₁₅ ∷ l₁₆ ∷ l₁₇ ∷ l₁₈ ∷ l₁₉ ∷ l₂₀ ∷ l₂₁ ∷ l₂₂ ∷ l₂₃ ∷ l₂₄ ∷ l₂₅ ∷ l₂₆ ∷ l₂₇ ∷ l₂₈ ∷ l₂₉ ∷ []
 
     abbrev En : Env 𝓤 H
     En = envOf 𝓤 H (code.function .locals) bs
@@ -175,43 +174,46 @@ module _ {M : Type 1} (𝓤 : URA M) (H : Heap 𝓤) (A : Atoms 𝓤) (W : Given
     -- [the row 0; the tally, lent or not, 1; sheet's token 2; rules's 3; what sheet owns 4; what rules owns 5; the row's open borrow 6; obs 7; auth 8; locals from 9, of which _5 is the tally's]
     abbrev At : Upto → List (Item 𝓤)
     At i = ‵ (row T.the-row fullShare (i .zs) (slots .b) (slots .o)) ∷ ‵ (partAt Y.the-row fullShare (i .t) l₅ 0)
-        ∷ Opened 𝓤 sheet rules slots (localsOf 𝓤 (past 6 (code.function .locals)) (past 6 bs) (some (vint w64 (i .k)) ∷ []) (‵ (fdies (tyAt (code.function .locals) 5) l₅) ∷ localsOf 𝓤 (code.function .locals) (l₀ ∷ l₁ ∷ l₂ ∷ l₃ ∷ l₄ ∷ []) (none ∷ some (lent-val sheet) ∷ some (lent-val rules) ∷ some (sliceVal (slots .b, slots .o) (length (i .zs))) ∷ some (vint w64 (length (sheet .now) / 24)) ∷ []) []))
+        ∷ Opened 𝓤 sheet rules slots (localsOf 𝓤 (past 6 (code.function .locals)) (past 6 bs) (some (vint w64 (i .k)) ∷ []) (‵ (fdies (tyAt (code.function .locals) 5) l₅) ∷ localsOf 𝓤 (code.function .locals) (l₀ ∷ l₁ ∷ l₂ ∷ l₃ ∷ l₄ ∷ []) (none ∷ some (lent-val sheet) ∷ some (lent-val rules) ∷ some (sliceVal (slots .b, slots .o) (length (i .zs))) ∷ some (vint w64 (length (sheet .now) / recordBytes narrow)) ∷ []) []))
 
     -- the end: the locals are freed
     lets-go : (zs : List Slot) (t : Tally) (c k : ℕ) (r : ReplayAnswer) → length zs ≡ length (slots .now) → said r ≡ runs-to narrow (rules .now) (sheet .now) n 0 s₀ → Is B.the-row r (answer-val r ∷ [])
         → Sq W (‵ (fat fullShare (tyAt (code.function .locals) 5) l₅ 0 (tally-val t)) ∷ Closed 𝓤 sheet rules slots zs
-        (localsOf 𝓤 (past 6 (code.function .locals)) (past 6 bs) (some (vint w64 k) ∷ []) (‵ (fdies (tyAt (code.function .locals) 5) l₅) ∷ localsOf 𝓤 (code.function .locals) (l₀ ∷ l₁ ∷ l₂ ∷ l₃ ∷ l₄ ∷ []) (some (answer-val r) ∷ some (lent-val sheet) ∷ some (lent-val rules) ∷ some (sliceVal (slots .b, slots .o) c) ∷ some (vint w64 (length (sheet .now) / 24)) ∷ []) [])))
+        (localsOf 𝓤 (past 6 (code.function .locals)) (past 6 bs) (some (vint w64 k) ∷ []) (‵ (fdies (tyAt (code.function .locals) 5) l₅) ∷ localsOf 𝓤 (code.function .locals) (l₀ ∷ l₁ ∷ l₂ ∷ l₃ ∷ l₄ ∷ []) (some (answer-val r) ∷ some (lent-val sheet) ∷ some (lent-val rules) ∷ some (sliceVal (slots .b, slots .o) c) ∷ some (vint w64 (length (sheet .now) / recordBytes narrow)) ∷ []) [])))
         (frees En (prop (Post (answer-val r))))
     lets-go zs t c k r same e gr =
-        lays ! 47 $ leaves ! 5 (code.function .locals) bs (some _ ∷ some _ ∷ some _ ∷ some _ ∷ some _ ∷ some _ ∷ some _ ∷ []) refl $ by ! (exits zs r same e gr)
+        lays ! 53 $ leaves ! 5 (code.function .locals) bs (some _ ∷ some _ ∷ some _ ∷ some _ ∷ some _ ∷ some _ ∷ some _ ∷ []) refl $ by ! (exits zs r same e gr)
 
     -- after the loop: the last node is looked for
     ends : (i : Upto) → n ≤ i .k → Is Y.the-row (i .t) (tally-val (i .t) ∷ [])
         → Sq W (‵ (row T.the-row fullShare (i .zs) (slots .b) (slots .o)) ∷ ‵ (fat fullShare (tyAt (code.function .locals) 5) l₅ 0 (tally-val (i .t)))
-        ∷ Opened 𝓤 sheet rules slots (localsOf 𝓤 (past 6 (code.function .locals)) (past 6 bs) (some (vint w64 (i .k)) ∷ []) (‵ (fdies (tyAt (code.function .locals) 5) l₅) ∷ localsOf 𝓤 (code.function .locals) (l₀ ∷ l₁ ∷ l₂ ∷ l₃ ∷ l₄ ∷ []) (none ∷ some (lent-val sheet) ∷ some (lent-val rules) ∷ some (sliceVal (slots .b, slots .o) (length (i .zs))) ∷ some (vint w64 (length (sheet .now) / 24)) ∷ []) [])))
+        ∷ Opened 𝓤 sheet rules slots (localsOf 𝓤 (past 6 (code.function .locals)) (past 6 bs) (some (vint w64 (i .k)) ∷ []) (‵ (fdies (tyAt (code.function .locals) 5) l₅) ∷ localsOf 𝓤 (code.function .locals) (l₀ ∷ l₁ ∷ l₂ ∷ l₃ ∷ l₄ ∷ []) (none ∷ some (lent-val sheet) ∷ some (lent-val rules) ∷ some (sliceVal (slots .b, slots .o) (length (i .zs))) ∷ some (vint w64 (length (sheet .now) / recordBytes narrow)) ∷ []) [])))
         (runs (𝓣 .C) (𝓣 .Λ) En m.t-7 (atRet En Post))
-    unfolding soughtIn
     ends i over gt =
-        assigns ! (addr ! (from ! (fld ! refl (hop ! (look-in ! 54 (sub ! 0 refl (whole !))) (stop !))))) (from ! (stop !)) (init ! 15 refl (tt, tt)) $
-        assigns ! (agg ! (and-then ! (load ! (from ! (stop !)) (look ! 15 refl)) (and-then ! (load ! (from ! (fld ! refl (stop !))) (look-in ! 54 (sub ! 1 refl (whole !)))) (no-more !)))) (from ! (stop !)) (init ! 13 refl (tt, (tt, (record { fits = room-at T.the-row (i .same) room .0 }, tt)))) $
-        assigns ! (of-opd ! (load ! (from ! (stop !)) (look ! 1 refl))) (from ! (stop !)) (init ! 37 refl (LL.lawful Y.the-type Y′.the-laws 𝓤 H A W .typed (i .t) _ gt .0)) $
-        call-last ! at-mem run fm (known .last) (i .t) gt (and-then ! (load ! (from ! (stop !)) (look ! 38 refl)) (no-more !)) (λ d e-d gd.
-        land ! (from ! (stop !)) (init ! 11 refl (LL.lawful N.the-type N′.the-laws 𝓤 H A W .typed d _ gd .0)) $
-        assigns ! (agg ! (and-then ! (lit ! tt) (and-then ! (load ! (from ! (stop !)) (look ! 11 refl)) (no-more !)))) (from ! (stop !)) (init ! 9 refl (EL.lawful K.the-type K′.the-laws 𝓤 H A W tt .typed (Node d) _ (node-is d gd) .0)) $
-        call-find ! at-mem run fm (known .find) fullShare (i .zs) (slots .b) (slots .o) (Node d) (room-at T.the-row (i .same) room) (node-is d gd) (λ ν δ. (and-then ! (load ! (from ! (stop !)) (look ! 14 refl)) (and-then ! (load ! (from ! (stop !)) (look ! 10 refl)) (no-more !)))) (λ w e-w gw.
-        land ! (from ! (stop !)) (init ! 41 refl (LL.lawful F.the-type F′.the-laws 𝓤 H A W .typed w _ gw .0)) $
-        assigns ! (of-opd ! (load ! (from ! (stop !)) (look ! 1 refl))) (from ! (stop !)) (store ! 37 refl (LL.lawful Y.the-type Y′.the-laws 𝓤 H A W .typed (i .t) _ gt .0)) $
-        assigns ! (of-opd ! (load ! (from ! (fld ! refl (stop !))) (look-in ! 54 (sub ! 1 refl (whole !))))) (from ! (stop !)) (init ! 39 refl (tt, record { fits = room-at T.the-row (i .same) room .0 })) $
-        call-end ! at-mem run fm (known .end) (i .t) gt w gw (length (i .zs)) (room-at T.the-row (i .same) room .0) n (count-fits (length (sheet .now)) (room₀ .0)) (and-then ! (load ! (from ! (stop !)) (look ! 38 refl)) (and-then ! (load ! (from ! (stop !)) (look ! 42 refl)) (and-then ! (load ! (from ! (stop !)) (look ! 40 refl)) (and-then ! (load ! (from ! (stop !)) (look ! 53 refl)) (no-more !))))) (λ r e-r gr.
-        land ! (from ! (stop !)) (init ! 60 refl (EL.lawful B.the-type B′.the-laws 𝓤 H A W tt .typed r _ gr .0)) $
-        forget ! 41 refl $ forget ! 39 refl $ forget ! 37 refl $ forget ! 15 refl $ forget ! 13 refl $ forget ! 11 refl $ forget ! 9 refl $
+        assigns ! (addr ! (from ! (fld ! refl (hop ! (look-in ! 60 (sub ! 0 refl (whole !))) (stop !))))) (from ! (stop !)) (init ! 17 refl (tt, tt)) $
+        assigns ! (agg ! (and-then ! (load ! (from ! (stop !)) (look ! 17 refl)) (and-then ! (load ! (from ! (fld ! refl (stop !))) (look-in ! 60 (sub ! 1 refl (whole !)))) (no-more !)))) (from ! (stop !)) (init ! 15 refl (tt, (tt, (record { fits = room-at T.the-row (i .same) room .0 }, tt)))) $
+        assigns ! (of-opd ! (load ! (from ! (stop !)) (look ! 1 refl))) (from ! (stop !)) (init ! 43 refl (LL.lawful Y.the-type Y′.the-laws 𝓤 H A W .typed (i .t) _ gt .0)) $
+        call-last ! at-mem run fm (known .last) (i .t) gt (and-then ! (load ! (from ! (stop !)) (look ! 44 refl)) (no-more !)) (λ x e-x gx.
+        land ! (from ! (stop !)) (init ! 13 refl (EL.lawful K.the-type K′.the-laws 𝓤 H A W tt .typed x _ gx .0)) $
+        call-find ! at-mem run fm (known .find) fullShare (i .zs) (slots .b) (slots .o) x (room-at T.the-row (i .same) room) gx (λ ν δ. (and-then ! (load ! (from ! (stop !)) (look ! 16 refl)) (and-then ! (load ! (from ! (stop !)) (look ! 14 refl)) (no-more !)))) (λ w e-w gw.
+        land ! (from ! (stop !)) (init ! 47 refl (EL.lawful F.the-type F′.the-laws 𝓤 H A W tt .typed w _ gw .0)) $
+        assigns ! (agg ! (and-then ! (lit ! tt) (no-more !))) (from ! (stop !)) (init ! 11 refl (EL.lawful J.the-type J′.the-laws 𝓤 H A W tt .typed Fine _ fine-is .0)) $
+        assigns ! (agg ! (and-then ! (load ! (from ! (stop !)) (look ! 58 refl)) (no-more !))) (from ! (stop !)) (init ! 9 refl (LL.lawful R.the-type R′.the-laws 𝓤 H A W .typed (number n) _ records-is .0)) $
+        assigns ! (of-opd ! (load ! (from ! (stop !)) (look ! 1 refl))) (from ! (stop !)) (store ! 43 refl (LL.lawful Y.the-type Y′.the-laws 𝓤 H A W .typed (i .t) _ gt .0)) $
+        call-end ! at-mem run fm (known .end) Fine fine-is (number n) records-is (i .t) gt w gw (and-then ! (load ! (from ! (stop !)) (look ! 12 refl)) (and-then ! (load ! (from ! (stop !)) (look ! 10 refl)) (and-then ! (load ! (from ! (stop !)) (look ! 44 refl)) (and-then ! (load ! (from ! (stop !)) (look ! 48 refl)) (no-more !))))) (λ r e-r gr.
+        land ! (from ! (stop !)) (init ! 66 refl (EL.lawful B.the-type B′.the-laws 𝓤 H A W tt .typed r _ gr .0)) $
+        forget ! 47 refl $ forget ! 43 refl $ forget ! 17 refl $ forget ! 15 refl $ forget ! 13 refl $ forget ! 11 refl $ forget ! 9 refl $
         move ! (0 ∷ 6 ∷ 7 ∷ 8 ∷ []) $ closes-slice ! tt T.the-row (slots .now) (i .zs) (i .same) (slots .b) (slots .o) $
         -- [obs 0; the borrow 1; the token 2; the tally's cell 3; sheet's token 4; rules's 5; what sheet owns; what rules owns; locals]
-        move ! (3 ∷ []) $ move ! (0 ∷ 1 ∷ 2 ∷ 3 ∷ 4 ∷ 5 ∷ []) $ move ! (6 ∷ []) $ drop ! $ move ! (6 ∷ []) $ drop ! $ returns ! (look ! 57 refl) $
-        lets-go (i .zs) (i .t) (length (i .zs)) (i .k) r (i .same) (e-r (rowOf (i .zs)) (row-length (i .zs)) (e-w ∙ ap (λ (c : ℕ). search (holding c) (rowOf (i .zs))) e-d) ∙ goes-all (rules .now) (sheet .now) s₀ (i .k) (state (tallyOf (i .t)) (rowOf (i .zs))) (i .goes) n refl (le-antisymm (i .few) over)) gr)))
+        move ! (3 ∷ []) $ move ! (0 ∷ 1 ∷ 2 ∷ 3 ∷ 4 ∷ 5 ∷ []) $ move ! (6 ∷ []) $ drop ! $ move ! (6 ∷ []) $ drop ! $ returns ! (look ! 63 refl) $
+        lets-go (i .zs) (i .t) (length (i .zs)) (i .k) r (i .same)
+        (e-r ∙ ap (ended Fine n (tallyOf (i .t))) (e-w ∙ ap (λ (z : RowSought). look-for z (rowOf (i .zs))) e-x) ∙ goes-all (rules .now) (sheet .now) s₀ (i .k) (state (tallyOf (i .t)) (rowOf (i .zs))) (i .goes) n refl (le-antisymm (i .few) over)) gr)))
       where
         fm : FmC 𝓤 H (W .laws) (𝓣 .C)
         fm = fmOf 𝓤 H (W .laws) 𝓣
+
+        records-is : Is R.the-row (number n) (record-val (number n) ∷ [])
+        records-is = number-is n (count-fits (length (sheet .now)) (room₀ .0))
 
     abbrev Turned : Upto → Out → SProp 𝓤
     Turned i = afterTurn 𝓤 H (Below 𝓤 H A Nearer At i) (afterBlock 𝓤 H (afterSeq 𝓤 H (Wp 𝓤 H (𝓣 .C) (𝓣 .Λ) En m.t-7 (atReturn 𝓤 H En Post)) (atReturn 𝓤 H En Post)))
@@ -224,62 +226,69 @@ module _ {M : Type 1} (𝓤 : URA M) (H : Heap 𝓤) (A : Atoms 𝓤) (W : Given
       t₁ = tail (tail m.turn-1)
 
       abbrev t₂ : Body′
-      t₂ = tail (tail (tail (tail (tail (tail (tail (tail (tail (tail (tail t₁))))))))))
+      t₂ = tail (tail (tail (tail (tail (tail (tail (tail (tail (tail t₁)))))))))
 
-      -- what the step has answered
-      answers : (less : i .k < n) (r : StepAnswer) (zs : List Slot) (t : Tally) → length zs ≡ length (i .zs) → Comes (rules .now) (lent (sheet .now) (i .k)) (number (i .k)) (i .zs) (i .t) r zs t → Is S.the-row r (step-val r ∷ [])
-          → Sq W (‵ (row T.the-row fullShare zs (slots .b) (slots .o)) ∷ ‵ (partAt Y.the-row fullShare t l₅ 0) ∷ Opened 𝓤 sheet rules slots (localsOf 𝓤 (past 6 (code.function .locals)) (past 6 bs) (some (vint w64 (i .k)) ∷ none ∷ none ∷ some (step-val r) ∷ []) (‵ (fdies (tyAt (code.function .locals) 5) l₅) ∷ localsOf 𝓤 (code.function .locals) (l₀ ∷ l₁ ∷ l₂ ∷ l₃ ∷ l₄ ∷ []) (none ∷ some (lent-val sheet) ∷ some (lent-val rules) ∷ some (sliceVal (slots .b, slots .o) (length (i .zs))) ∷ some (vint w64 (length (sheet .now) / 24)) ∷ []) [])))
+      -- what is said of the record
+      answers : (less : i .k < n) (v : Verdict) (zs : List Slot) (t : Tally) → length zs ≡ length (i .zs) → Takes (rules .now) (lent (sheet .now) (i .k)) (i .zs) (i .t) v zs t → Is J.the-row v (verdict-val v ∷ [])
+          → Sq W (‵ (row T.the-row fullShare zs (slots .b) (slots .o)) ∷ ‵ (partAt Y.the-row fullShare t l₅ 0) ∷ Opened 𝓤 sheet rules slots (localsOf 𝓤 (past 6 (code.function .locals)) (past 6 bs) (some (vint w64 (i .k)) ∷ none ∷ none ∷ some (verdict-val v) ∷ []) (‵ (fdies (tyAt (code.function .locals) 5) l₅) ∷ localsOf 𝓤 (code.function .locals) (l₀ ∷ l₁ ∷ l₂ ∷ l₃ ∷ l₄ ∷ []) (none ∷ some (lent-val sheet) ∷ some (lent-val rules) ∷ some (sliceVal (slots .b, slots .o) (length (i .zs))) ∷ some (vint w64 (length (sheet .now) / recordBytes narrow)) ∷ []) [])))
           (runs (𝓣 .C) (𝓣 .Λ) En t₂ (anyQ (Turned i)))
       unfolding afterTurn partOf
-      answers less r zs t same e gr =
-          call-taken ! at-mem run fm (known .taken) r gr (and-then ! (load ! (from ! (stop !)) (look ! 44 refl)) (no-more !)) (λ c e-c.
-          land ! (from ! (stop !)) (init ! 17 refl (tt, tt)) $
-          branches ! (load ! (from ! (stop !)) (look ! 17 refl))
+      answers less v zs t same took gv =
+          call-passes ! at-mem run fm (known .passes) v gv (and-then ! (load ! (from ! (stop !)) (look ! 50 refl)) (no-more !)) (λ c e-c.
+          land ! (from ! (stop !)) (init ! 25 refl (tt, tt)) $
+          branches ! (load ! (from ! (stop !)) (look ! 25 refl))
           -- taken: the next turn
-          (λ it. assigns-last ! (bin ! (load ! (from ! (stop !)) (look ! 49 refl)) (lit ! tt) (record { fits = next-fits })) (from ! (stop !)) (store ! 49 refl (tt, record { fits = next-fits })) $
-          rewrite ! 54 (λ (d : ℕ). ‵ (fat fullShare (tyAt (code.function .locals) 3) l₃ 0 (sliceVal (slots .b, slots .o) d))) (sym same) refl $ forget ! 43 refl $ forget ! 17 refl $
-          again ! Nearer At i (record { k = i .k + 1; zs = zs; t = t; few = add-one-le less; same = same ∙ i .same; goes = goes-on (rules .now) (sheet .now) s₀ (i .k) s (i .goes) less fine (saidOfStep r) (state (tallyOf t) (rowOf zs)) e (sym e-c ∙ is-true c it) }) (add-one-dec n (i .k) less))
-          -- not taken: the function returns
-          (λ not-it. call-stopped ! at-mem run fm (known .stopped) r gr (and-then ! (load ! (from ! (stop !)) (look ! 44 refl)) (no-more !)) (λ a e-a ga.
-          land ! (from ! (stop !)) (init ! 60 refl (EL.lawful B.the-type B′.the-laws 𝓤 H A W tt .typed a _ ga .0)) $ forget ! 43 refl $ forget ! 17 refl $
+          (λ it. assigns-last ! (bin ! (load ! (from ! (stop !)) (look ! 55 refl)) (lit ! tt) (record { fits = more-fits })) (from ! (stop !)) (store ! 55 refl (tt, record { fits = more-fits })) $
+          rewrite ! 60 (λ (d : ℕ). ‵ (fat fullShare (tyAt (code.function .locals) 3) l₃ 0 (sliceVal (slots .b, slots .o) d))) (sym same) refl $ forget ! 49 refl $ forget ! 25 refl $
+          again ! Nearer At i (record { k = i .k + 1; zs = zs; t = t; few = add-one-le less; same = same ∙ i .same; goes = goes-on (rules .now) (sheet .now) s₀ (i .k) s (i .goes) less fine v (state (tallyOf t) (rowOf zs)) took (sym e-c ∙ is-true c it) }) (add-one-dec n (i .k) less))
+          -- refused: the function returns
+          (λ not-it. move ! (1 ∷ []) $ settled ! Y.the-row (tyAt (code.function .locals) 5) (λ v b. refl) tally-val (LL.tells Y.the-type Y′.the-laws) t l₅ (λ gt. move ! (1 ∷ []) $
+          assigns ! (agg ! (and-then ! (load ! (from ! (stop !)) (look ! 55 refl)) (no-more !))) (from ! (stop !)) (init ! 23 refl (LL.lawful R.the-type R′.the-laws 𝓤 H A W .typed (number (i .k)) _ number-ok .0)) $
+          assigns ! (of-opd ! (load ! (from ! (stop !)) (look ! 1 refl))) (from ! (stop !)) (init ! 21 refl (LL.lawful Y.the-type Y′.the-laws 𝓤 H A W .typed t _ gt .0)) $
+          call-nowhere ! at-mem run fm (known .nowhere) (no-more !) (λ p _ gp.
+          land ! (from ! (stop !)) (init ! 19 refl (EL.lawful F.the-type F′.the-laws 𝓤 H A W tt .typed p _ gp .0)) $
+          call-end ! at-mem run fm (known .end) v gv (number (i .k)) number-ok t gt p gp (and-then ! (load ! (from ! (stop !)) (look ! 50 refl)) (and-then ! (load ! (from ! (stop !)) (look ! 24 refl)) (and-then ! (load ! (from ! (stop !)) (look ! 22 refl)) (and-then ! (load ! (from ! (stop !)) (look ! 20 refl)) (no-more !))))) (λ a e-a ga.
+          land ! (from ! (stop !)) (init ! 66 refl (EL.lawful B.the-type B′.the-laws 𝓤 H A W tt .typed a _ ga .0)) $ forget ! 49 refl $ forget ! 25 refl $ forget ! 23 refl $ forget ! 21 refl $ forget ! 19 refl $
           move ! (0 ∷ 6 ∷ 7 ∷ 8 ∷ []) $ closes-slice ! tt T.the-row (slots .now) zs (same ∙ i .same) (slots .b) (slots .o) $
-          -- [obs 0; the borrow 1; the token 2; the tally 3; sheet's token 4; rules's 5; what sheet owns; what rules owns; locals]
-          move ! (6 ∷ []) $ drop ! $ move ! (6 ∷ []) $ drop ! $ move ! (3 ∷ []) $ settled ! Y.the-row (tyAt (code.function .locals) 5) (λ v b. refl) tally-val (LL.tells Y.the-type Y′.the-laws) t l₅ (λ gt.
-          returns-within ! Post refl (look ! 57 refl) $
-          lets-go zs t (length (i .zs)) (i .k) a (same ∙ i .same) (e-a ∙ goes-no-more (rules .now) (sheet .now) s₀ (i .k) s (i .goes) less fine (saidOfStep r) (state (tallyOf t) (rowOf zs)) e (sym e-c ∙ is-false c not-it)) ga))))
+          -- [obs 0; the borrow 1; the token 2; the tally's cell 3; sheet's token 4; rules's 5; what sheet owns; what rules owns; locals]
+          move ! (6 ∷ []) $ drop ! $ move ! (6 ∷ []) $ drop ! $ move ! (3 ∷ []) $
+          returns-within ! Post refl (look ! 63 refl) $
+          lets-go zs t (length (i .zs)) (i .k) a (same ∙ i .same) (e-a ∙ goes-no-more (rules .now) (sheet .now) s₀ (i .k) s (i .goes) less fine v (state (tallyOf t) (rowOf zs)) took (sym e-c ∙ is-false c not-it) (tallyOf t) (placeOf p)) ga)))))
         where
           s : State
           s = state (tallyOf (i .t)) (rowOf (i .zs))
 
-          next-fits : i .k + 1 < 2 ^ 64
-          next-fits = omega (arith, less, (count-fits (length (sheet .now)) (room₀ .0)))
+          number-ok : Is R.the-row (number (i .k)) (record-val (number (i .k)) ∷ [])
+          number-ok = number-is (i .k) (number-fits (length (sheet .now)) (i .k) (room₀ .0) less)
 
-      -- a record is lent to the step, beside the row and the tally
+          more-fits : i .k + 1 < 2 ^ 64
+          more-fits = omega (arith, less, (count-fits (length (sheet .now)) (room₀ .0)))
+
+      -- a record is lent to `take`, beside the row and the tally
       does : i .k < n → Sq W (At i) (runs (𝓣 .C) (𝓣 .Λ) En t₁ (anyQ (Turned i)))
       does less =
-          assigns ! (bin ! (lit ! tt) (load ! (from ! (stop !)) (look ! 49 refl)) (record { fits = at-fits (length (sheet .now)) (i .k) (room₀ .0) less })) (from ! (stop !)) (init ! 47 refl (tt, record { fits = at-fits (length (sheet .now)) (i .k) (room₀ .0) less })) $
-          assigns ! (bin ! (load ! (from ! (stop !)) (look ! 47 refl)) (lit ! tt) (record { fits = end-fits (length (sheet .now)) (i .k) (room₀ .0) less })) (from ! (stop !)) (init ! 45 refl (tt, record { fits = end-fits (length (sheet .now)) (i .k) (room₀ .0) less })) $
-          assigns ! (addr ! (from ! (fld ! refl (hop ! (look-in ! 54 (sub ! 0 refl (whole !))) (stop !))))) (from ! (stop !)) (init ! 33 refl (tt, tt)) $
-          assigns ! (agg ! (and-then ! (load ! (from ! (stop !)) (look ! 33 refl)) (and-then ! (load ! (from ! (fld ! refl (stop !))) (look-in ! 54 (sub ! 1 refl (whole !)))) (no-more !)))) (from ! (stop !)) (init ! 31 refl (tt, (tt, (record { fits = room-at T.the-row (i .same) room .0 }, tt)))) $
-          assigns ! (addr ! (from ! (stop !))) (from ! (stop !)) (init ! 29 refl (tt, tt)) $
-          assigns ! (bin ! (load ! (from ! (fld ! refl (stop !))) (look-in ! 58 (sub ! 0 refl (whole !)))) (load ! (from ! (stop !)) (look ! 47 refl)) tt) (from ! (stop !)) (init ! 27 refl (tt, tt)) $
-          assigns ! (bin ! (load ! (from ! (stop !)) (look ! 45 refl)) (load ! (from ! (stop !)) (look ! 47 refl)) (at-end (i .k))) (from ! (stop !)) (init ! 25 refl (tt, record { fits = part-fits (length (sheet .now)) (i .k) (room₀ .0) less })) $
-          assigns ! (addr ! (from ! (hop ! (look ! 27 refl) (stop !)))) (from ! (stop !)) (init ! 23 refl (tt, tt)) $
-          assigns ! (agg ! (and-then ! (load ! (from ! (stop !)) (look ! 23 refl)) (and-then ! (load ! (from ! (stop !)) (look ! 25 refl)) (no-more !)))) (from ! (stop !)) (init ! 21 refl (tt, (tt, (record { fits = part-fits (length (sheet .now)) (i .k) (room₀ .0) less }, tt)))) $
-          rewrite ! 21 (λ (d : ℕ). ‵ (fat fullShare (tyAt (code.function .locals) 20) l₂₀ 0 (sliceVal (sheet .b, 24 * i .k + sheet .o) d))) (part-count (sheet .now) (24 * i .k) (24 * i .k + 24) (at-end (i .k), record-inside (i .k) (length (sheet .now)) less)) refl $
-          assigns ! (agg ! (and-then ! (load ! (from ! (stop !)) (look ! 49 refl)) (no-more !))) (from ! (stop !)) (init ! 19 refl (LL.lawful R.the-type R′.the-laws 𝓤 H A W .typed (number (i .k)) _ (number-is (i .k) (number-fits (length (sheet .now)) (i .k) (room₀ .0) less)) .0)) $
-          call-step-at ! at-mem run fm (known .step) sheet rules (i .k) room₀ less (i .zs) (i .t) (slots .b) (slots .o) l₅ 0 (room-at T.the-row (i .same) room)
-          (λ γ ν δ ν′ δ′. (and-then ! (load ! (from ! (stop !)) (look ! 30 refl)) (and-then ! (load ! (from ! (stop !)) (look ! 28 refl)) (and-then ! (load ! (from ! (stop !)) (look ! 55 refl)) (and-then ! (load ! (from ! (stop !)) (look ! 20 refl)) (and-then ! (load ! (from ! (stop !)) (look ! 18 refl)) (no-more !))))))) (λ r zs t same e gr.
-          land ! (from ! (stop !)) (init ! 43 refl (EL.lawful S.the-type S′.the-laws 𝓤 H A W tt .typed r _ gr .0)) $ forget ! 47 refl $ forget ! 45 refl $ forget ! 33 refl $ forget ! 31 refl $ forget ! 29 refl $ forget ! 27 refl $ forget ! 25 refl $ forget ! 23 refl $ forget ! 21 refl $ forget ! 19 refl $
-          answers less r zs t same e gr)
+          assigns ! (bin ! (lit ! tt) (load ! (from ! (stop !)) (look ! 55 refl)) (record { fits = at-fits (length (sheet .now)) (i .k) (room₀ .0) less })) (from ! (stop !)) (init ! 53 refl (tt, record { fits = at-fits (length (sheet .now)) (i .k) (room₀ .0) less })) $
+          assigns ! (bin ! (load ! (from ! (stop !)) (look ! 53 refl)) (lit ! tt) (record { fits = end-fits (length (sheet .now)) (i .k) (room₀ .0) less })) (from ! (stop !)) (init ! 51 refl (tt, record { fits = end-fits (length (sheet .now)) (i .k) (room₀ .0) less })) $
+          assigns ! (addr ! (from ! (fld ! refl (hop ! (look-in ! 60 (sub ! 0 refl (whole !))) (stop !))))) (from ! (stop !)) (init ! 39 refl (tt, tt)) $
+          assigns ! (agg ! (and-then ! (load ! (from ! (stop !)) (look ! 39 refl)) (and-then ! (load ! (from ! (fld ! refl (stop !))) (look-in ! 60 (sub ! 1 refl (whole !)))) (no-more !)))) (from ! (stop !)) (init ! 37 refl (tt, (tt, (record { fits = room-at T.the-row (i .same) room .0 }, tt)))) $
+          assigns ! (addr ! (from ! (stop !))) (from ! (stop !)) (init ! 35 refl (tt, tt)) $
+          assigns ! (bin ! (load ! (from ! (fld ! refl (stop !))) (look-in ! 64 (sub ! 0 refl (whole !)))) (load ! (from ! (stop !)) (look ! 53 refl)) tt) (from ! (stop !)) (init ! 33 refl (tt, tt)) $
+          assigns ! (bin ! (load ! (from ! (stop !)) (look ! 51 refl)) (load ! (from ! (stop !)) (look ! 53 refl)) (at-end (i .k))) (from ! (stop !)) (init ! 31 refl (tt, record { fits = part-fits (length (sheet .now)) (i .k) (room₀ .0) less })) $
+          assigns ! (addr ! (from ! (hop ! (look ! 33 refl) (stop !)))) (from ! (stop !)) (init ! 29 refl (tt, tt)) $
+          assigns ! (agg ! (and-then ! (load ! (from ! (stop !)) (look ! 29 refl)) (and-then ! (load ! (from ! (stop !)) (look ! 31 refl)) (no-more !)))) (from ! (stop !)) (init ! 27 refl (tt, (tt, (record { fits = part-fits (length (sheet .now)) (i .k) (room₀ .0) less }, tt)))) $
+          rewrite ! 27 (λ (d : ℕ). ‵ (fat fullShare (tyAt (code.function .locals) 20) l₂₀ 0 (sliceVal (sheet .b, recordBytes narrow * i .k + sheet .o) d))) (part-count (sheet .now) (recordBytes narrow * i .k) (recordBytes narrow * i .k + recordBytes narrow) (at-end (i .k), record-inside (i .k) (length (sheet .now)) less)) refl $
+          call-take-at ! at-mem run fm (known .take) sheet rules (i .k) less (i .zs) (i .t) (slots .b) (slots .o) l₅ 0 (room-at T.the-row (i .same) room) (next-fits (rules .now) (sheet .now) s₀ (i .k) (state (tallyOf (i .t)) (rowOf (i .zs))) (i .goes) less fine)
+          (λ γ ν δ ν′ δ′. (and-then ! (load ! (from ! (stop !)) (look ! 36 refl)) (and-then ! (load ! (from ! (stop !)) (look ! 34 refl)) (and-then ! (load ! (from ! (stop !)) (look ! 61 refl)) (and-then ! (load ! (from ! (stop !)) (look ! 26 refl)) (no-more !)))))) (λ v zs t same took gv.
+          land ! (from ! (stop !)) (init ! 49 refl (EL.lawful J.the-type J′.the-laws 𝓤 H A W tt .typed v _ gv .0)) $ forget ! 53 refl $ forget ! 51 refl $ forget ! 39 refl $ forget ! 37 refl $ forget ! 35 refl $ forget ! 33 refl $ forget ! 31 refl $ forget ! 29 refl $ forget ! 27 refl $
+          answers less v zs t same took gv)
 
       turns : Sq W (At i) (runs (𝓣 .C) (𝓣 .Λ) En m.turn-1 (anyQ (Turned i)))
       unfolding afterTurn partOf
       turns =
-          assigns ! (bin ! (load ! (from ! (stop !)) (look ! 49 refl)) (load ! (from ! (stop !)) (look ! 52 refl)) tt) (from ! (stop !)) (init ! 35 refl (tt, tt)) $
-          first ! $ branches ! (load ! (from ! (stop !)) (look ! 35 refl))
-          (λ less. skips ! $ exec ! (𝓣 .C) (𝓣 .Λ) En t₁ (anyQ (Turned i)) $ forget ! 35 refl $ does (ltb→lt (i .k) n less))
-          (λ over. jumps ! $ exec ! (𝓣 .C) (𝓣 .Λ) En m.t-7 (atRet En Post) $ forget ! 35 refl $
+          assigns ! (bin ! (load ! (from ! (stop !)) (look ! 55 refl)) (load ! (from ! (stop !)) (look ! 58 refl)) tt) (from ! (stop !)) (init ! 41 refl (tt, tt)) $
+          first ! $ branches ! (load ! (from ! (stop !)) (look ! 41 refl))
+          (λ less. skips ! $ exec ! (𝓣 .C) (𝓣 .Λ) En t₁ (anyQ (Turned i)) $ forget ! 41 refl $ does (ltb→lt (i .k) n less))
+          (λ over. jumps ! $ exec ! (𝓣 .C) (𝓣 .Λ) En m.t-7 (atRet En Post) $ forget ! 41 refl $
           move ! (1 ∷ []) $ settled ! Y.the-row (tyAt (code.function .locals) 5) (λ v b. refl) tally-val (LL.tells Y.the-type Y′.the-laws) (i .t) l₅ (λ gt.
           move ! (1 ∷ []) $ ends i (nltb→le (i .k) n over) gt))
 
@@ -288,18 +297,18 @@ module _ {M : Type 1} (𝓤 : URA M) (H : Heap 𝓤) (A : Atoms 𝓤) (W : Given
   walk 𝓣 known =
       qed W (Tokens 𝓤 sheet rules slots ∷ ‵ (owns (ShrSlice (named 0) (sheet .life) u8 ∷ ShrSlice (named 1) (rules .life) u8 ∷ MutSlice (named 2) (slots .life) T.the-row ∷ []) (entry .0 .3) (entry .0 .4)) ∷ []) ∵
       enter ! (𝓣 .C) (𝓣 .Λ) code.function (lent-val sheet ∷ lent-val rules ∷ lent-val slots ∷ []) _ $
-      alloc1 ! (λ l₀. alloc1 ! (λ l₁. alloc1 ! (λ l₂. alloc1 ! (λ l₃. alloc1 ! (λ l₄. alloc1 ! (λ l₅. alloc1 ! (λ l₆. alloc1 ! (λ l₇. alloc1 ! (λ l₈. alloc1 ! (λ l₉. alloc1 ! (λ l₁₀. alloc1 ! (λ l₁₁. alloc1 ! (λ l₁₂. alloc1 ! (λ l₁₃. alloc1 ! (λ l₁₄. alloc1 ! (λ l₁₅. alloc1 ! (λ l₁₆. alloc1 ! (λ l₁₇. alloc1 ! (λ l₁₈. alloc1 ! (λ l₁₉. alloc1 ! (λ l₂₀. alloc1 ! (λ l₂₁. alloc1 ! (λ l₂₂. alloc1 ! (λ l₂₃. alloc1 ! (λ l₂₄. alloc1 ! (λ l₂₅. alloc1 ! (λ l₂₆. alloc0 ! $ params1 ! $
-      pass1 ! (init ! 50 refl (tt, (tt, (record { fits = room₀ .0 }, tt)))) $ pass1 ! (init ! 48 refl (tt, (tt, (record { fits = room₁ .0 }, tt)))) $ pass1 ! (init ! 46 refl (tt, (tt, (record { fits = room .0 }, tt)))) $ pass0 ! $
-      move ! (54 ∷ 55 ∷ []) $ opens-with-row ! tt sheet rules slots $
-      assigns ! (of-opd ! (load ! (from ! (fld ! refl (stop !))) (look-in ! 58 (sub ! 1 refl (whole !))))) (from ! (stop !)) (init ! 38 refl (tt, record { fits = room₀ .0 })) $
-      assigns ! (bin ! (load ! (from ! (stop !)) (look ! 38 refl)) (lit ! tt) (lit< tt)) (from ! (stop !)) (init ! 52 refl (tt, record { fits = count-fits (length (sheet .now)) (room₀ .0) })) $
+      alloc1 ! (λ l₀. alloc1 ! (λ l₁. alloc1 ! (λ l₂. alloc1 ! (λ l₃. alloc1 ! (λ l₄. alloc1 ! (λ l₅. alloc1 ! (λ l₆. alloc1 ! (λ l₇. alloc1 ! (λ l₈. alloc1 ! (λ l₉. alloc1 ! (λ l₁₀. alloc1 ! (λ l₁₁. alloc1 ! (λ l₁₂. alloc1 ! (λ l₁₃. alloc1 ! (λ l₁₄. alloc1 ! (λ l₁₅. alloc1 ! (λ l₁₆. alloc1 ! (λ l₁₇. alloc1 ! (λ l₁₈. alloc1 ! (λ l₁₉. alloc1 ! (λ l₂₀. alloc1 ! (λ l₂₁. alloc1 ! (λ l₂₂. alloc1 ! (λ l₂₃. alloc1 ! (λ l₂₄. alloc1 ! (λ l₂₅. alloc1 ! (λ l₂₆. alloc1 ! (λ l₂₇. alloc1 ! (λ l₂₈. alloc1 ! (λ l₂₉. alloc0 ! $ params1 ! $
+      pass1 ! (init ! 56 refl (tt, (tt, (record { fits = room₀ .0 }, tt)))) $ pass1 ! (init ! 54 refl (tt, (tt, (record { fits = room₁ .0 }, tt)))) $ pass1 ! (init ! 52 refl (tt, (tt, (record { fits = room .0 }, tt)))) $ pass0 ! $
+      move ! (60 ∷ 61 ∷ []) $ opens-with-row ! tt sheet rules slots $
+      assigns ! (of-opd ! (load ! (from ! (fld ! refl (stop !))) (look-in ! 64 (sub ! 1 refl (whole !))))) (from ! (stop !)) (init ! 44 refl (tt, record { fits = room₀ .0 })) $
+      assigns ! (bin ! (load ! (from ! (stop !)) (look ! 44 refl)) (lit ! tt) (lit< tt)) (from ! (stop !)) (init ! 58 refl (tt, record { fits = count-fits (length (sheet .now)) (room₀ .0) })) $
       call-nothing ! at-mem run (fmOf 𝓤 H (W .laws) 𝓣) (known .nothing) (no-more !) (λ t e gt.
-      land ! (from ! (stop !)) (init ! 36 refl (LL.lawful Y.the-type Y′.the-laws 𝓤 H A W .typed t _ gt .0)) $
-      assigns ! (of-opd ! (load ! (from ! (stop !)) (look ! 36 refl))) (from ! (stop !)) (init ! 50 refl (LL.lawful Y.the-type Y′.the-laws 𝓤 H A W .typed t _ gt .0)) $
-      assigns ! (of-opd ! (lit ! tt)) (from ! (stop !)) (init ! 48 refl (tt, record { fits = lit< tt })) $ forget ! 38 refl $ forget ! 36 refl $
-      move ! (50 ∷ []) $ lendable ! Y.the-row (λ v b. refl) (LL.makes Y.the-type Y′.the-plain 𝓤 H A) t gt $ move ! (1 ∷ []) $
-      first ! $ blocks ! $ loops ! 𝓣 Nearer Nearer-wf (At 𝓣 known l₀ l₁ l₂ l₃ l₄ l₅ l₆ l₇ l₈ l₉ l₁₀ l₁₁ l₁₂ l₁₃ l₁₄ l₁₅ l₁₆ l₁₇ l₁₈ l₁₉ l₂₀ l₂₁ l₂₂ l₂₃ l₂₄ l₂₅ l₂₆) (turns 𝓣 known l₀ l₁ l₂ l₃ l₄ l₅ l₆ l₇ l₈ l₉ l₁₀ l₁₁ l₁₂ l₁₃ l₁₄ l₁₅ l₁₆ l₁₇ l₁₈ l₁₉ l₂₀ l₂₁ l₂₂ l₂₃ l₂₄ l₂₅ l₂₆)
-      (record { k = 0; zs = (slots .now); t = t; few = zero-le; same = refl; goes = goes-none (rules .now) (sheet .now) (rowOf (slots .now)) (tallyOf t) e })))))))))))))))))))))))))))))
+      land ! (from ! (stop !)) (init ! 42 refl (LL.lawful Y.the-type Y′.the-laws 𝓤 H A W .typed t _ gt .0)) $
+      assigns ! (of-opd ! (load ! (from ! (stop !)) (look ! 42 refl))) (from ! (stop !)) (init ! 56 refl (LL.lawful Y.the-type Y′.the-laws 𝓤 H A W .typed t _ gt .0)) $
+      assigns ! (of-opd ! (lit ! tt)) (from ! (stop !)) (init ! 54 refl (tt, record { fits = lit< tt })) $ forget ! 44 refl $ forget ! 42 refl $
+      move ! (56 ∷ []) $ lendable ! Y.the-row (λ v b. refl) (LL.makes Y.the-type Y′.the-plain 𝓤 H A) t gt $ move ! (1 ∷ []) $
+      first ! $ blocks ! $ loops ! 𝓣 Nearer Nearer-wf (At 𝓣 known l₀ l₁ l₂ l₃ l₄ l₅ l₆ l₇ l₈ l₉ l₁₀ l₁₁ l₁₂ l₁₃ l₁₄ l₁₅ l₁₆ l₁₇ l₁₈ l₁₉ l₂₀ l₂₁ l₂₂ l₂₃ l₂₄ l₂₅ l₂₆ l₂₇ l₂₈ l₂₉) (turns 𝓣 known l₀ l₁ l₂ l₃ l₄ l₅ l₆ l₇ l₈ l₉ l₁₀ l₁₁ l₁₂ l₁₃ l₁₄ l₁₅ l₁₆ l₁₇ l₁₈ l₁₉ l₂₀ l₂₁ l₂₂ l₂₃ l₂₄ l₂₅ l₂₆ l₂₇ l₂₈ l₂₉)
+      (record { k = 0; zs = (slots .now); t = t; few = zero-le; same = refl; goes = goes-none (rules .now) (sheet .now) (rowOf (slots .now)) (tallyOf t) e }))))))))))))))))))))))))))))))))
 
 module _ {M : Type 1} (𝓤 : URA M) (H : Heap 𝓤) (A : Atoms 𝓤) (W : Given 𝓤 H A) (at-mem : Memory → SProp 𝓤) (run : Routine → Fun 𝓤) where
   walks : (𝓣 : Tables 𝓤 H) → Known 𝓤 H A at-mem run (𝓣 .C) → Walks 𝓤 H A f.ended stayed (WpFn 𝓤 H (𝓣 .C) (𝓣 .Λ) code.function) (f.clauses 𝓤 H A at-mem run)
@@ -323,10 +332,10 @@ run-spec 𝓤 H 𝓜 𝓖 𝓡 =
     (meets 𝓤 H (𝓖 .A) (givenOf 𝓤 H 𝓜 𝓖) (𝓜 .mem) (𝓡 .run) (tablesOf 𝓤 H 𝓜 (tables 𝓤 H 𝓜 𝓡 code.env))
     (record {
       nothing = cited 𝓤 H (Nothing 𝓤 H (𝓖 .A) (𝓜 .mem) (𝓡 .run)) 𝓜 𝓡 code.env #nothing nothing-def.routine code.calls-tally·nothing (nothing-thm.met 𝓤 H 𝓜 𝓖 𝓡);
-      step = cited 𝓤 H (Step 𝓤 H (𝓖 .A) (𝓜 .mem) (𝓡 .run)) 𝓜 𝓡 code.env #step step-def.routine code.calls-replay-step·step (step-thm.met 𝓤 H 𝓜 𝓖 𝓡);
-      taken = cited 𝓤 H (Is-taken 𝓤 H (𝓖 .A) (𝓜 .mem) (𝓡 .run)) 𝓜 𝓡 code.env #taken taken-def.routine code.calls-replay-answer·is-taken (taken-thm.met 𝓤 H 𝓜 𝓖 𝓡);
-      stopped = cited 𝓤 H (Stopped 𝓤 H (𝓖 .A) (𝓜 .mem) (𝓡 .run)) 𝓜 𝓡 code.env #stopped stopped-def.routine code.calls-replay-answer·stopped (stopped-thm.met 𝓤 H 𝓜 𝓖 𝓡);
-      last = cited 𝓤 H (Last-of 𝓤 H (𝓖 .A) (𝓜 .mem) (𝓡 .run)) 𝓜 𝓡 code.env #last last-def.routine code.calls-replay-answer·last-of (last-thm.met 𝓤 H 𝓜 𝓖 𝓡);
+      take = cited 𝓤 H (Take 𝓤 H (𝓖 .A) (𝓜 .mem) (𝓡 .run)) 𝓜 𝓡 code.env #take take-def.routine code.calls-replay-step·take (take-thm.met 𝓤 H 𝓜 𝓖 𝓡);
+      passes = cited 𝓤 H (Passes 𝓤 H (𝓖 .A) (𝓜 .mem) (𝓡 .run)) 𝓜 𝓡 code.env #passes passes-def.routine code.calls-replay-answer·passes (passes-thm.met 𝓤 H 𝓜 𝓖 𝓡);
+      nowhere = cited 𝓤 H (Nowhere 𝓤 H (𝓖 .A) (𝓜 .mem) (𝓡 .run)) 𝓜 𝓡 code.env #nowhere nowhere-def.routine code.calls-replay-slots·nowhere (nowhere-thm.met 𝓤 H 𝓜 𝓖 𝓡);
+      last = cited 𝓤 H (Last-sought 𝓤 H (𝓖 .A) (𝓜 .mem) (𝓡 .run)) 𝓜 𝓡 code.env #last last-def.routine code.calls-replay-answer·last-sought (last-thm.met 𝓤 H 𝓜 𝓖 𝓡);
       find = cited 𝓤 H (Find 𝓤 H (𝓖 .A) (𝓜 .mem) (𝓡 .run)) 𝓜 𝓡 code.env #find find-def.routine code.calls-replay-row·find (find-thm.met 𝓤 H 𝓜 𝓖 𝓡);
       end = cited 𝓤 H (End 𝓤 H (𝓖 .A) (𝓜 .mem) (𝓡 .run)) 𝓜 𝓡 code.env #end end-def.routine code.calls-replay-answer·end (end-thm.met 𝓤 H 𝓜 𝓖 𝓡);
     }))
