@@ -92,31 +92,28 @@ fn judge_turn(
 {
     let reading = sheet_read::read_record(bytes, false);
     let Reading::Reads(record) = reading else {
-        return Verdict::Refused(sheet_read::why_unread(reading));
+        return sheet_read::verdict_of(reading);
     };
     match record {
-        Record::Given {
-            line,
-            clause: written,
-        } => {
-            let verdict = sheet_checks::check_given(rules, line, written);
+        Record::Given { line, clause } => {
+            let verdict = sheet_checks::check_given(rules, line, clause);
             let Verdict::Fine = verdict else {
                 return verdict;
             };
-            node::put_given(links, clauses, k, line, written);
+            node::put_given(links, clauses, k, line, clause);
             verdict
         }
         Record::Step {
             pivot,
             left,
             right,
-            clause: written,
+            clause,
         } => {
-            let verdict = check_step(clauses, k, pivot, left, right, written);
+            let verdict = check_step(clauses, k, pivot, left, right, clause);
             let Verdict::Fine = verdict else {
                 return verdict;
             };
-            node::put_step(links, clauses, k, pivot, left, right, written);
+            node::put_step(links, clauses, k, pivot, left, right, clause);
             verdict
         }
         Record::Drop(_) => Verdict::Refused(Reason::Kind),

@@ -22,10 +22,9 @@ use Rattle.sheet.specs.Records.{Node, given, step, node, nodeAt}
 use Rattle.sheet.specs.Denote.{recordOf}
 use Rattle.press_nodes.specs.Tables.{nodesIn}
 use Rattle.press_spec.specs.Links.{link, links, Parents}
-use Rattle.press_spec.specs.Order.{placed, renumber, laid, InOrder}
-use Rattle.press_spec.specs.Order as Order
+use Rattle.press_spec.specs.Order.{placed, numberIn, renumber, laid, InOrder}
 use Rattle.press_order.specs.Placing.{Numbered, Orderly}
-use Rattle.press_lay.specs.Laying.{numberIn, layTurn}
+use Rattle.press_lay.specs.Laying.{placeIn, layTurn}
 use Rattle.press_nodes.proofs.Tables.{links-nodes}
 use Rattle.press_order.proofs.Placing.{by-place, has-place}
 use Rattle.press_spec.proofs.Ordered.{placed-none, placed-cases}
@@ -46,7 +45,7 @@ module _ (x : Record) (numbers : List ℕ) where
   unfolding recordOf
   known-step q f = f _ (ap recordOf q)
 
-  pub lays-given : (m : Node) {line : LineNo} {c : Clause} → recordOf x ≡ node m → x ≡ Given line c → given (line .0) (literalsOf c) ≡ renumber (numberIn numbers) m
+  pub lays-given : (m : Node) {line : LineNo} {c : Clause} → recordOf x ≡ node m → x ≡ Given line c → given (line .0) (literalsOf c) ≡ renumber (placeIn numbers) m
   unfolding recordOf renumber
   lays-given m {line} {c} e q =
       let f : recordOf (Given line c) ≡ node m = rw q at e in
@@ -54,7 +53,7 @@ module _ (x : Record) (numbers : List ℕ) where
       rw g
 
   pub lays-step : (m : Node) {p : ℕ} {l r : NodeNo} {c : Clause} (i j : ℕ) → recordOf x ≡ node m → x ≡ Step p l r c
-      → i ≡ numberIn numbers (l .0) → j ≡ numberIn numbers (r .0) → step p i j (literalsOf c) ≡ renumber (numberIn numbers) m
+      → i ≡ placeIn numbers (l .0) → j ≡ placeIn numbers (r .0) → step p i j (literalsOf c) ≡ renumber (placeIn numbers) m
   unfolding recordOf renumber
   lays-step m {p} {l} {r} {c} i j e q u v =
       let f : recordOf (Step p l r c) ≡ node m = rw q at e in
@@ -72,8 +71,8 @@ module _ (numbers : List ℕ) (s old : List Node) {n i : ℕ} (same : i ≡ n) w
   unfolding layTurn
   turn-none q = rw (eq-eqb (getD numbers n 0) 0 (rw same at q))
 
-  pub turn-some : {k : ℕ} → (getD numbers i 0 ≡ 0 → ⊥) → k ≡ numberIn numbers n
-      → set old k (renumber (numberIn numbers) (nodeAt s n)) ≡ layTurn numbers s n old
+  pub turn-some : {k : ℕ} → (getD numbers i 0 ≡ 0 → ⊥) → k ≡ placeIn numbers n
+      → set old k (renumber (placeIn numbers) (nodeAt s n)) ≡ layTurn numbers s n old
   unfolding layTurn
   turn-some q e = rw (ne-eqb (getD numbers n 0) 0 (rw same at q), e)
 
@@ -92,23 +91,23 @@ module _ (h c numbers order : List ℕ) (orderly : Orderly h order) (numbered : 
   orderly-nodes : InOrder (links (nodesIn h c)) Below order
   orderly-nodes = rw (links-nodes h c) orderly
 
-  has-number : (m : ℕ) → placed m order ≡ true → getD numbers m 0 ≡ suc (Order.numberIn order m)
+  has-number : (m : ℕ) → placed m order ≡ true → getD numbers m 0 ≡ suc (numberIn order m)
   has-number m q = by-place numbers order m numbered true q
 
   known : (m : Node) → Parents (λ k. placed k order ≡ true) (link m) → Parents (HasPlace numbers) (link m)
   known (given line d) h = tt
   known (step p l r d) h = (omega (arith, has-number l (h .0)), omega (arith, has-number r (h .1)))
 
-  same-numbers : (m : Node) → Parents (λ k. placed k order ≡ true) (link m) → renumber (numberIn numbers) m ≡ renumber (Order.numberIn order) m
+  same-numbers : (m : Node) → Parents (λ k. placed k order ≡ true) (link m) → renumber (placeIn numbers) m ≡ renumber (numberIn order) m
   unfolding renumber
   same-numbers (given line d) h = refl
   same-numbers (step p l r d) h =
-      let u : getD numbers l 0 - 1 ≡ Order.numberIn order l = omega (arith, has-number l (h .0)) in
-      let v : getD numbers r 0 - 1 ≡ Order.numberIn order r = omega (arith, has-number r (h .1)) in
+      let u : getD numbers l 0 - 1 ≡ numberIn order l = omega (arith, has-number l (h .0)) in
+      let v : getD numbers r 0 - 1 ≡ numberIn order r = omega (arith, has-number r (h .1)) in
       rw (u, v)
 
   module _ {n i : ℕ} (same : i ≡ n) (some : getD numbers i 0 ≡ 0 → ⊥) where
-    pub number-inside : {k : ℕ} → k ≡ numberIn numbers n → k < length order
+    pub number-inside : {k : ℕ} → k ≡ placeIn numbers n → k < length order
     number-inside e =
         let q = has-place numbers order n numbered i same some in
         omega (arith, has-number n q, number-below n order q)
@@ -121,13 +120,13 @@ module _ (h c numbers order : List ℕ) (orderly : Orderly h order) (numbered : 
   -- ---- every turn
 
   turn-placed : (n : ℕ) (t : List Node) → placed n order ≡ true
-      → layTurn numbers s n t ≡ set t (Order.numberIn order n) (renumber (Order.numberIn order) (nodeAt s n))
+      → layTurn numbers s n t ≡ set t (numberIn order n) (renumber (numberIn order) (nodeAt s n))
   unfolding layTurn
   turn-placed n t q =
       let f = has-number n q in
-      let k : getD numbers n 0 - 1 ≡ Order.numberIn order n = omega (arith, f) in
+      let k : getD numbers n 0 - 1 ≡ numberIn order n = omega (arith, f) in
       rw (ne-eqb (getD numbers n 0) 0 (λ z. omega (arith, f)), k)
-      (ap (set t (Order.numberIn order n)) (same-numbers (nodeAt s n) (premises-placed s Below order orderly-nodes n q)))
+      (ap (set t (numberIn order n)) (same-numbers (nodeAt s n) (premises-placed s Below order orderly-nodes n q)))
 
   turn-other : (n : ℕ) (t : List Node) → placed n order ≡ false → layTurn numbers s n t ≡ t
   unfolding layTurn
@@ -140,21 +139,21 @@ module _ (h c numbers order : List ℕ) (orderly : Orderly h order) (numbered : 
     -- the nodes below n that have a place stand there
     abbrev LaidBelow : ℕ → List Node → Type 0
     LaidBelow n u = (length u ≡ length order)
-        × ((m : ℕ) → m < n → placed m order ≡ true → nodeAt u (Order.numberIn order m) ≡ renumber (Order.numberIn order) (nodeAt s m))
+        × ((m : ℕ) → m < n → placed m order ≡ true → nodeAt u (numberIn order m) ≡ renumber (numberIn order) (nodeAt s m))
 
     laid-turn : (n : ℕ) (u : List Node) → LaidBelow n u → LaidBelow (suc n) (layTurn numbers s n u)
     unfolding nodeAt
     laid-turn n u (long, f) = by (placed n order) refl
       where
         x : Node
-        x = renumber (Order.numberIn order) (nodeAt s n)
+        x = renumber (numberIn order) (nodeAt s n)
 
         by : (b : Bool) → placed n order ≡ b → LaidBelow (suc n) (layTurn numbers s n u)
         by true q = rw (turn-placed n u q) (
           simp length-set long,
           λ m i p. elim (ℕ-discrete m n) [
-            | yes e ↦ rw e (getD-set-same u (Order.numberIn order n) x (given 0 none) (omega (arith, number-below n order q)))
-            | no e ↦ getD-set-other u (Order.numberIn order n) (Order.numberIn order m) x (given 0 none) (λ z. e (number-once order m n p q z)) ∙ f m (omega arith) p
+            | yes e ↦ rw e (getD-set-same u (numberIn order n) x (given 0 none) (omega (arith, number-below n order q)))
+            | no e ↦ getD-set-other u (numberIn order n) (numberIn order m) x (given 0 none) (λ z. e (number-once order m n p q z)) ∙ f m (omega arith) p
           ],
         )
         by false q = rw (turn-other n u q) (

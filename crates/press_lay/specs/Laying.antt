@@ -10,12 +10,12 @@ use Rattle.press_spec.specs.Order.{renumber}
 use Rattle.press_order.specs.Placing.{Numbered, Orderly}
 
 -- the new number of a node that has a place
-abbrev pub numberIn : List ℕ → ℕ → ℕ
-numberIn numbers n = getD numbers n 0 - 1
+abbrev pub placeIn : List ℕ → ℕ → ℕ
+placeIn numbers n = getD numbers n 0 - 1
 
 -- what the turn at node n of the nodes s makes of the nodes laid out so far
 unfoldable pub layTurn : List ℕ → List Node → ℕ → List Node → List Node
-layTurn numbers s n laid = cond (eqb (getD numbers n 0) 0) laid (set laid (numberIn numbers n) (renumber (numberIn numbers) (nodeAt s n)))
+layTurn numbers s n laid = cond (eqb (getD numbers n 0) 0) laid (set laid (placeIn numbers n) (renumber (placeIn numbers) (nodeAt s n)))
 
 -- what laying out may assume: some order stands in the table, with as many nodes as there is room for
 pub record Laying (links numbers : List ℕ) (room : ℕ) : Type 0 where

@@ -10,7 +10,7 @@ ghost use Rattle.press_nodes.specs.Tables.{clauseWords, nodesIn, Nodes};
 ghost use Rattle.press_spec.specs.Links.{link, Parents};
 ghost use Rattle.press_spec.specs.Order.{renumber, laid};
 ghost use Rattle.press_order.specs.Placing.{Numbered, Orderly};
-ghost use Rattle.press_lay.specs.Laying.{numberIn, layTurn, Laying};
+ghost use Rattle.press_lay.specs.Laying.{placeIn, layTurn, Laying};
 use press_nodes::node;
 use sheet::NodeNo;
 use sheet::Record;
@@ -18,7 +18,7 @@ use sheet::Record;
 // The new number of a node: its place in the order.
 fn number_of(numbers: &[u16], n: NodeNo) -> NodeNo
     requires { ⌜ (n .0 < length (now numbers)) × (1 ≤ getD (now numbers) (n .0) 0) ⌝ }
-    ensures { λ r. ⌜ r .0 ≡ numberIn (now (numbers .entry)) (n .0) ⌝ }
+    ensures { λ r. ⌜ r .0 ≡ placeIn (now (numbers .entry)) (n .0) ⌝ }
 {
     let i = n.index();
     NodeNo(numbers[i] - 1)
@@ -34,7 +34,7 @@ fn lay_node(
 )
     requires { ⌜ (length (now «pressed_clauses») ≡ clauseWords (length (now «pressed_links»))) × (k .0 < length (now «pressed_links»)) ⌝ }
     requires { ⌜ ((m : Node) → recordOf found ≡ node m → Parents (λ n. 1 ≤ getD (now numbers) n 0) (link m)) ⌝ }
-    ensures { λ _. ⌜ ((m : Node) → recordOf found ≡ node m → nodesIn (now («pressed_links» .exit)) (now («pressed_clauses» .exit)) ≡ set (nodesIn (now («pressed_links» .entry)) (now («pressed_clauses» .entry))) (k .0) (renumber (numberIn (now (numbers .entry))) m)) ⌝ }
+    ensures { λ _. ⌜ ((m : Node) → recordOf found ≡ node m → nodesIn (now («pressed_links» .exit)) (now («pressed_clauses» .exit)) ≡ set (nodesIn (now («pressed_links» .entry)) (now («pressed_clauses» .entry))) (k .0) (renumber (placeIn (now (numbers .entry))) m)) ⌝ }
 {
     match found {
         Record::Given { line, clause } => {

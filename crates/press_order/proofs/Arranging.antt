@@ -40,10 +40,10 @@ starts t numbers cleared from tables i c l e = record {
   stands = none-stand numbers cleared e;
 }
 
-pub order-found : (s : List Link) (from : ℕ) (counts again cleared numbers : List ℕ) (count : ℕ)
+pub order-found : (s : List Link) (from : ℕ) {counts again cleared numbers : List ℕ} {count : ℕ}
     → ((m : ℕ) → getD counts m 0 ≡ usesFrom s from m) → again ≡ counts → Stands cleared 0 [] → Places s again from cleared 0 numbers count
     → Stands numbers count (orderFrom s from)
 unfolding orderFrom
-order-found s from counts again cleared numbers count f e none m =
+order-found s from {again = again} f e none m =
     let same : (λ k. getD again k 0) ≡ usesFrom s from = λ i k. (ap (λ (t : List ℕ). getD t k 0) e ∙ f k) i in
     rw same at (m [] (suc from) none (omega arith))

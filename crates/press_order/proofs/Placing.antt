@@ -21,7 +21,7 @@ use Rattle.press_spec.proofs.Counted.{order-fits}
 
 -- ---- the premise that goes first
 
-module _ (t : List ℕ) (l r i j x y : ℕ) (p : i ≡ l) (q : j ≡ r) where
+module _ (t : List ℕ) {l r i j : ℕ} (p : i ≡ l) (q : j ≡ r) (x y : ℕ) where
   pub right-goes : getD t i 0 < getD t j 0 → x ≡ cond (rightFirst (λ m. getD t m 0) l r) x y
   unfolding rightFirst
   right-goes h = rw (← p, ← q, lt-ltb (getD t i 0) (getD t j 0) h)

@@ -8,7 +8,7 @@ ghost use lib.ListN.{length, getD};
 ghost use Rattle.sheet.specs.Editions.{capacity};
 ghost use Rattle.press_nodes.specs.Tables.{linksIn, Links};
 ghost use Rattle.press_spec.specs.Order.{rightFirst, place, orderFrom};
-ghost use Rattle.press_order.specs.Placing.{Stands, Placing};
+ghost use Rattle.press_order.specs.Placing.{Numbered, Stands, Placing};
 use press_nodes::clear;
 use press_nodes::link;
 use press_nodes::link::Link;
@@ -75,7 +75,8 @@ fn place(links: &[u64], counts: &[u16], n: NodeNo, numbers: &mut [u16], count: u
 pub fn order_from(links: &[u64], from: NodeNo, numbers: &mut [u16]) -> u16
     requires { ⌜ Links (now links) ⌝ }
     requires { ⌜ (length (now numbers) ≡ length (now links)) × (from .0 < length (now links)) ⌝ }
-    ensures { λ r. ⌜ Stands (now (numbers .exit)) r (orderFrom (linksIn (now (links .entry))) (from .0)) ⌝ }
+    ensures numbers { λ _. ⌜ Numbered (now (numbers .exit)) (orderFrom (linksIn (now (links .entry))) (from .0)) ⌝ }
+    ensures count { λ r. ⌜ r ≡ length (orderFrom (linksIn (now (links .entry))) (from .0)) ⌝ }
 {
     let mut counts = [0u16; CAPACITY];
     let n = links.len();

@@ -1,7 +1,6 @@
 -- What is looked for in the row for a record, and what the record comes to with what was found.
 use Prim.Native.Nat.{ℕ}
 use mathlib.Core.List.{List}
-use Rattle.sheet.specs.declared.Reason.{Reason}
 use Rattle.sheet.specs.declared.Verdict.{Verdict}
 use Rattle.sheet.specs.declared.Verdict.the-variants.{Fine, Refused}
 use Rattle.sheet.specs.Editions.{Edition}
@@ -38,13 +37,13 @@ placed next (node x) left vacant = into (slot 1 next (clause x)) vacant
 placed next (drop n) left vacant = into empty left
 
 -- "a refused record changes neither tally nor slots"
-abbrev pub keeps : Reason → Tally → Decided
-keeps why t = record { verdict = Refused why; tally = t; place = nowhere }
+abbrev pub keeps : Verdict → Tally → Decided
+keeps v t = record { verdict = v; tally = t; place = nowhere }
 
 unfoldable pub byChecks : Verdict → Tally → Record → Place → Place → Decided
 byChecks Fine t r left vacant = record { verdict = Fine; tally = counted t r; place = placed (t .next) r left vacant }
-byChecks (Refused why) t r left vacant = keeps why t
+byChecks (Refused why) t r left vacant = keeps (Refused why) t
 
 unfoldable pub decided : Edition → List ℕ → Tally → Reading → Place → Place → Place → Decided
 decided e rules t (reads r) left right vacant = byChecks (checkFound e rules (t .next) r left right vacant) t r left vacant
-decided e rules t (unread why) left right vacant = keeps why t
+decided e rules t (unread why) left right vacant = keeps (Refused why) t

@@ -17,7 +17,6 @@ use replay_slots::Sought;
 use replay_slots::StepAnswer;
 use sheet::NodeNo;
 use sheet::Reading;
-use sheet::Reason;
 use sheet::Record;
 use sheet::RecordNo;
 use sheet::Verdict;
@@ -106,11 +105,11 @@ fn place_for(next: NodeNo, r: Record, left: Place, vacant: Place) -> Place
 }
 
 // "A refused record changes neither tally nor slots."
-fn kept(why: Reason, t: Tally) -> Decided
-    ensures { λ d. ⌜ decidedOf d ≡ keeps why (tallyOf t) ⌝ }
+fn kept(verdict: Verdict, t: Tally) -> Decided
+    ensures { λ d. ⌜ decidedOf d ≡ keeps verdict (tallyOf t) ⌝ }
 {
     Decided {
-        verdict: Verdict::Refused(why),
+        verdict,
         tally: t,
         place: Place::Nowhere,
     }
@@ -129,17 +128,17 @@ pub fn decide(
     ensures { λ d. ⌜ decidedOf d ≡ decided narrow (now (rules .entry)) (tallyOf t) (readingOf reading) (placeOf left) (placeOf right) (placeOf vacant) ⌝ }
 {
     let Reading::Reads(r) = reading else {
-        return kept(sheet_read::why_unread(reading), t);
+        return kept(sheet_read::verdict_of(reading), t);
     };
     let next = NodeNo(t.next);
     let verdict = replay_verdict::check_record(rules, next, r, left, right, vacant);
-    match verdict {
-        Verdict::Fine => Decided {
-            verdict,
-            tally: tally::counted(t, r),
-            place: place_for(next, r, left, vacant),
-        },
-        Verdict::Refused(why) => kept(why, t),
+    let Verdict::Fine = verdict else {
+        return kept(verdict, t);
+    };
+    Decided {
+        verdict,
+        tally: tally::counted(t, r),
+        place: place_for(next, r, left, vacant),
     }
 }
 

@@ -4,7 +4,7 @@ ghost use Prim.Native.Nat.{_+_, _≤_};
 ghost use lib.ListN.{length};
 ghost use Rattle.sheet.specs.Editions.{narrow, recordBytes, lineBytes};
 ghost use Rattle.sheet.specs.Fields.{clauseAt, fieldsOf, readGiven, readStep, readDrop, readFields, reading};
-ghost use Rattle.sheet.specs.Denote.{fieldsIn, readingOf, whyUnread};
+ghost use Rattle.sheet.specs.Denote.{fieldsIn, readingOf, verdictOf};
 ghost use Rattle.clause.specs.Denote.{literalsOf};
 use clause::Clause;
 use clause::Set;
@@ -14,6 +14,7 @@ use sheet::NodeNo;
 use sheet::Reading;
 use sheet::Reason;
 use sheet::Record;
+use sheet::Verdict;
 use sheet::limits;
 
 pub mod lines;
@@ -108,12 +109,12 @@ pub fn read_record(b: &[u8], drops: bool) -> Reading
     read_fields(fields_of(b), drops)
 }
 
-// Why a record does not read, for the else of a `let .. else`; of a record that reads it is not asked.
-pub fn why_unread(r: Reading) -> Reason
-    ensures { λ why. ⌜ why ≡ whyUnread (readingOf r) ⌝ }
+// What reading a record says of it, for the else of a `let .. else`, which binds nothing of the other case.
+pub fn verdict_of(r: Reading) -> Verdict
+    ensures { λ v. ⌜ v ≡ verdictOf (readingOf r) ⌝ }
 {
     match r {
-        Reading::Reads(_) => Reason::Kind,
-        Reading::Unread(why) => why,
+        Reading::Reads(_) => Verdict::Fine,
+        Reading::Unread(why) => Verdict::Refused(why),
     }
 }

@@ -5,7 +5,7 @@ use Rattle.clause.specs.Denote.{literalsOf}
 use Rattle.sheet.specs.declared.Verdict.{Verdict}
 use Rattle.sheet.specs.declared.Verdict.the-variants.{Refused}
 use Rattle.sheet.specs.declared.Reading.the-variants.{Reads}
-use Rattle.sheet.specs.Denote.{recordOf, readingOf, whyUnread}
+use Rattle.sheet.specs.Denote.{recordOf, readingOf, verdictOf}
 use Rattle.sheet.specs.Records.{Node, given, step}
 use Rattle.press_nodes.specs.Tables.{nodesIn}
 use Rattle.press_judge.proofs.Judging.{given-checked, turn-unread, turn-drop, Checked, turn-refused, turn-fine}
@@ -61,14 +61,14 @@ enum-known-reading c = search needs
 enum-told : tie.Need-enum-told
 enum-told c = search needs
 
-why-unread-requires : tie.Need-why-unread-requires
-why-unread-requires c κs = search needs
+verdict-of-requires : tie.Need-verdict-of-requires
+verdict-of-requires c κs = search needs
 
 returns : tie.Need-returns
-unfolding readingOf whyUnread
+unfolding readingOf verdictOf
 returns c = let r = c .before .before .before in
     let told = c .before .enum-told .given .1 in
-    turn-unread (start r .args .rules .now) (start r .args .bytes .now) (nodes r) (start r .args .k .0) _ (ap Refused (c .why-unread .ensures ∙ ap (λ x. whyUnread (readingOf x)) told)) (sym (r .read-record .ensures) ∙ ap readingOf told)
+    turn-unread (start r .args .rules .now) (start r .args .bytes .now) (nodes r) (start r .args .k .0) _ (c .verdict-of .ensures ∙ ap (λ x. verdictOf (readingOf x)) told) (sym (r .read-record .ensures) ∙ ap readingOf told)
 
 enum-known-record : tie.Need-enum-known-record
 enum-known-record c = search needs
@@ -143,7 +143,7 @@ judge-turn-spec =
     read-record-requires
     enum-known-reading
     enum-told
-    why-unread-requires
+    verdict-of-requires
     returns
     enum-known-record
     check-given-requires

@@ -24,15 +24,15 @@ shared-slice-read-if1-2 c = search needs
 returns : tie.Need-returns
 returns c = let a = c .before .before .before .before .before .before .args in
     let t = a .counts .now in (
-      right-goes t _ _ (c .before .before .before .before .index .result) (c .before .before .before .index2 .result) _ (a .left .0) (c .before .before .before .before .index .ensures) (c .before .before .before .index2 .ensures) (c .if1 .taken),
-      right-goes t _ _ (c .before .before .before .before .index .result) (c .before .before .before .index2 .result) _ (a .right .0) (c .before .before .before .before .index .ensures) (c .before .before .before .index2 .ensures) (c .if1 .taken),
+      right-goes t (c .before .before .before .before .index .ensures) (c .before .before .before .index2 .ensures) _ (a .left .0) (c .if1 .taken),
+      right-goes t (c .before .before .before .before .index .ensures) (c .before .before .before .index2 .ensures) _ (a .right .0) (c .if1 .taken),
     )
 
 returns-2 : tie.Need-returns-2
 returns-2 c = let a = c .before .before .before .before .before .before .args in
     let t = a .counts .now in (
-      left-goes t _ _ (c .before .before .before .before .index .result) (c .before .before .before .index2 .result) (a .right .0) _ (c .before .before .before .before .index .ensures) (c .before .before .before .index2 .ensures) (c .if1 .left),
-      left-goes t _ _ (c .before .before .before .before .index .result) (c .before .before .before .index2 .result) (a .left .0) _ (c .before .before .before .before .index .ensures) (c .before .before .before .index2 .ensures) (c .if1 .left),
+      left-goes t (c .before .before .before .before .index .ensures) (c .before .before .before .index2 .ensures) (a .right .0) _ (c .if1 .left),
+      left-goes t (c .before .before .before .before .index .ensures) (c .before .before .before .index2 .ensures) (a .left .0) _ (c .if1 .left),
     )
 
 pub in-turn-spec : {M : Type 1} → statement M

@@ -38,7 +38,8 @@ same-length c = search needs
 returns : tie.Need-returns
 returns c = let u = c .before .before .before .before .before .before .before .before .before .before .uses-from in
     let p = c .before .before .before .before .before .before .before .before .before .before .before .before .before .before .pre in
-    order-found _ _ _ _ _ _ _ (u .ensures) (front-again _ (u .last .1 .1 .0) _ (u .kept .1 .1 .0) (p .0 .few)) (none-stand (c .before .before .before .before .before .before .before .before .before .before .before .before .before .before .args .numbers .now) _ (c .before .before .before .before .before .before .before .clear-numbers .ensures)) (c .before .before .place .ensures)
+    let y = order-found _ _ (u .ensures) (front-again _ (u .last .1 .1 .0) _ (u .kept .1 .1 .0) (p .0 .few)) (none-stand (c .before .before .before .before .before .before .before .before .before .before .before .before .before .before .args .numbers .now) _ (c .before .before .before .before .before .before .before .clear-numbers .ensures)) (c .before .before .place .ensures) in
+    (y .numbered, y .counts)
 
 pub order-from-spec : {M : Type 1} → statement M
 order-from-spec =

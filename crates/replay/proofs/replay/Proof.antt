@@ -57,7 +57,7 @@ use Rattle.sheet_checks.proofs.check_lengths.Symbol.{name as #lengths}
 use Rattle.sheet_checks.proofs.check_lengths.Met as lengths-thm
 use Rattle.tally.specs.Tally.{nothing}
 use Rattle.replay_spec.specs.Step.{state, passes}
-use Rattle.replay_spec.specs.Replay.{refused, outcome, replay, run as runs-to}
+use Rattle.replay_spec.specs.Replay.{outcome, replay, run as runs-to}
 use Rattle.replay_slots.specs.declared.Slot.{Slot}
 use Rattle.replay_slots.specs.Said.{rowOf}
 use Rattle.replay_slots.proofs.Slot as T

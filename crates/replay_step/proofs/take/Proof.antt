@@ -62,7 +62,7 @@ use Rattle.tally.specs.declared.Tally.{Tally}
 use Rattle.tally.specs.Said.{tallyOf}
 use Rattle.tally.proofs.Tally as Y
 use Rattle.tally.proofs.Tally.Laws as Y′
-use Rattle.replay_spec.specs.Slots.{Slot as RowSlot, Place as RowPlace, Sought as RowSought, put as put-into, look as look-for}
+use Rattle.replay_spec.specs.Slots.{Slot as RowSlot, Sought as RowSought, put as put-into, look as look-for}
 use Rattle.replay_spec.specs.Step.{State, state, turn, judged, byReading, byTurn, fits}
 use Rattle.replay_spec.proofs.Steps.{fits-tells}
 use Rattle.replay_slots.specs.declared.Slot.{Slot}
@@ -192,12 +192,9 @@ module _ {M : Type 1} (𝓤 : URA M) (H : Heap 𝓤) (A : Atoms 𝓤) (W : Given
   abbrev Post : Val → SProp 𝓤
   Post = walkOf 𝓤 H A f.ended stayed (f.clauses 𝓤 H A at-mem run) .post (((κ₀, (κ₁, (κ₂, (κ₃, tt)))), (q₀, (q₁, (q₂, (q₃, tt)))), tt, x, at), tt)
 
-  -- what is shared with the callees
+  -- what is shared with `decide`
   abbrev lent-rules : Lent u8
   lent-rules = record { life = κ₂; share = q₂; b = b₂; o = o₂; name = γ₂; now = rules }
-
-  abbrev lent-bytes : Lent u8
-  lent-bytes = record { life = κ₃; share = q₃; b = b₃; o = o₃; name = γ₃; now = bytes }
 
   -- what is had at exit
   abbrev Had : Decided → List Slot → List (Item 𝓤)

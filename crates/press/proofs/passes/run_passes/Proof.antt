@@ -96,11 +96,11 @@ module _ (b : tie.After-rebuild) where
   tables = rebuilt-nodes _ (links building) (clauses building) links′ clauses′ _ (building .pre .0 .0) long (b .rebuild .kept .1 .0) (b .rebuild .ensures)
 
   below : from < length links′
-  below = from-below (links building) (clauses building) links′ clauses′ _ _ (building .pre .0 .0) (b .rebuild .ensures) from read (building .pre .0 .1) long
+  below = from-below (building .pre .0 .0) links′ clauses′ _ _ (b .rebuild .ensures) from read (building .pre .0 .1) long
 
   passed : laid (nodesIn links′ clauses′) (orderFrom (linksIn links′) from) ≡ pressed (nodesIn (links building) (clauses building))
   passed =
-      from-pressed (links building) (clauses building) links′ clauses′ _ _ (building .pre .0 .0) (b .rebuild .ensures) from read _
+      from-pressed (building .pre .0 .0) links′ clauses′ _ _ (b .rebuild .ensures) from read _
       (λ m. rw (counts-again (b .before .before .before .before .before .before .before .before .before .before .before)) (b .before .before .before .before .before .before .before .before .before .before .before .uses-from .ensures m))
       (ap fatesIn (fates-again (b .before .before .before .before .before .before)) ∙ b .before .before .before .before .before .before .recycle .ensures)
 
@@ -127,7 +127,7 @@ module _ (o : tie.After-order-from) where
   numbers-again = front-again (replicate capacity 0) numbers (n ordering) (o .order-from .kept .1 .1 .0) (few ordering)
 
   count-is : count ≡ length order
-  count-is = o .order-from .ensures .counts
+  count-is = o .order-from .ensures .1
 
   count-fits : count ≤ capacity
   count-fits = omega (arith, count-is, arranged-fits (tables built) (from built) (below built), tables built .linked .few)
@@ -136,7 +136,7 @@ module _ (o : tie.After-order-from) where
   orderly = arranged-order (tables built) (from built) (below built)
 
   numbered : Numbered (take (n ordering) (numbers ++ drop (n ordering) (replicate capacity 0))) order
-  numbered = rw numbers-again (o .order-from .ensures .numbered)
+  numbered = rw numbers-again (o .order-from .ensures .0)
 
   room : length (take count (replicate {A = ℕ} capacity 0)) ≡ count
   room = lent-long capacity count count-fits

@@ -50,7 +50,6 @@ use Rattle.lending.proofs.Lends.{passed, Tokens, Opened, Closed, opens-with-row
 use Rattle.lending.proofs.Locals.{envOf, localsOf, tyAt, past, tail}
 use Rattle.lending.proofs.Parts.{lent-of, lent-val, Lent}
 use Rattle.lending.proofs.Rows.{room-at, lendable, settled}
-use Rattle.sheet.specs.declared.RecordNo.{RecordNo}
 use Rattle.sheet.specs.declared.Verdict.{Verdict}
 use Rattle.sheet.specs.declared.Verdict.the-variants.{Fine}
 use Rattle.sheet.specs.Editions.{narrow, recordBytes, replayRecords}
