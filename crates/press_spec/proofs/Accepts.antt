@@ -35,7 +35,7 @@ unfolding nodesOf
 nodes-alone [] = refl
 nodes-alone (x ∷ s) = ap (λ (t : List Node). x ∷ t) (nodes-alone s)
 
-record-alone : (s : List Node) (k : ℕ) → recordIn (map node s) k ≡ node (nodeAt s k)
+pub record-alone : (s : List Node) (k : ℕ) → recordIn (map node s) k ≡ node (nodeAt s k)
 unfolding nodeAt
 record-alone s k = List·getD-map node s k _
 
@@ -44,7 +44,7 @@ take-alone zero s = refl
 take-alone (suc k) [] = refl
 take-alone (suc k) (x ∷ s) = ap (λ (t : List Record). node x ∷ t) (take-alone k s)
 
-all-nodes : (rs : List Record) → ((k : ℕ) → k < length rs → Known false (recordIn rs k)) → rs ≡ map node (nodesOf rs)
+pub all-nodes : (rs : List Record) → ((k : ℕ) → k < length rs → Known false (recordIn rs k)) → rs ≡ map node (nodesOf rs)
 unfolding nodesOf
 all-nodes [] f = refl
 all-nodes (node x ∷ rs) f = ap (λ (t : List Record). node x ∷ t) (all-nodes rs (λ k h. f (suc k) (omega arith)))
@@ -71,14 +71,14 @@ module _ (s : List Node) (k : ℕ) (inside : k ≤ length s) where
   held-first n h = (rw count-first h, rw (take-alone k s) (λ j i q. let y = record-alone (take k s) j in let z : _≡_ {A = ℕ} 0 1 = cc in omega arith))
 
   module _ (e : Edition) (rules : List ℕ) where
-    after-proper : (x : Node) → PivotBelow e x → ProperAfter e rules first (node x) → ProperNode e rules s k x
+    pub after-proper : (x : Node) → PivotBelow e x → ProperAfter e rules first (node x) → ProperNode e rules s k x
     after-proper (given line c) b p = p
     after-proper (step v l r c) b (left, right, plus, minus, result) =
         let i : l < k = omega (arith, count-first, left .0) in
         let j : r < k = omega (arith, count-first, right .0) in
         rw (← clause-first l i, ← clause-first r j) (b, i, j, plus, minus, result)
 
-    proper-after : (x : Node) → ProperNode e rules s k x → ProperAfter e rules first (node x)
+    pub proper-after : (x : Node) → ProperNode e rules s k x → ProperAfter e rules first (node x)
     proper-after (given line c) p = p
     proper-after (step v l r c) (b, i, j, plus, minus, result) =
         rw (clause-first l i, clause-first r j) (held-first l i, held-first r j, plus, minus, result)

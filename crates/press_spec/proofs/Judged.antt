@@ -75,7 +75,7 @@ abbrev pub AllRead : Edition → List ℕ → List Node → Type 0
 AllRead e sheet s = (k : ℕ) → k < length s → reading e false (recordAt e sheet k) ≡ reads (node (nodeAt s k))
 
 module _ (e : Edition) (rules sheet : List ℕ) where
-  abbrev here : List Node → Turn
+  abbrev pub here : List Node → Turn
   here s = turn e rules (recordAt e sheet (length s)) s
 
   pub judge-more : (m : ℕ) (s : List Node) (n : Node) → here s ≡ goes n
@@ -94,10 +94,10 @@ module _ (e : Edition) (rules sheet : List ℕ) where
     | no y ↦ let i : k < length s = omega (arith, length-more s n) in rw (nodeAt-before s n k i) (f k i)
   ]
 
-  abbrev Sound : ℕ → List Node → Type 0
+  abbrev pub Sound : ℕ → List Node → Type 0
   Sound m s = AllProper e rules s × (length s ≡ m) × AllRead e sheet s
 
-  sound-more : (m : ℕ) (s : List Node) (n : Node) → here s ≡ goes n → Sound m s → Sound (suc m) (s ++ (n ∷ []))
+  pub sound-more : (m : ℕ) (s : List Node) (n : Node) → here s ≡ goes n → Sound m s → Sound (suc m) (s ++ (n ∷ []))
   sound-more m s n q f =
       let y = turn-goes e rules s (recordAt e sheet (length s)) n q in
       (all-proper-more e rules s n (f .0) (y .1), length-more s n ∙ ap suc (f .1), read-more s n (f .2) (y .0))
@@ -135,14 +135,19 @@ module _ (e : Edition) (rules sheet : List ℕ) (s : List Node) (f : AllProper e
       let z : length (take k s) ≡ k = length-take-le k s (omega arith) in
       goes-turn e rules (take k s) _ (nodeAt s k) (rw z (g k h)) (rw z (proper-take e rules s k (nodeAt s k) (f k h)))
 
-  judge-rest : (m k : ℕ) → k + m ≡ length s → judgeFrom e rules sheet m (take k s) ≡ proper s
-  unfolding judgeFrom nodeAt
-  judge-rest zero k q = let z : k ≡ length s = omega arith in ap proper (rw z (take-length s))
-  judge-rest (suc m) k q =
-      judge-more e rules sheet m (take k s) (nodeAt s k) (goes-here k (omega arith))
-      ∙ ap (judgeFrom e rules sheet m) (sym (take-suc s k _ (omega arith)))
-      ∙ judge-rest m (suc k) (omega arith)
+  -- so many of the nodes s are judged already, and m records come after them
+  pub judge-on : (j m k : ℕ) → k + j ≡ length s → judgeFrom e rules sheet (j + m) (take k s) ≡ judgeFrom e rules sheet m s
+  unfolding nodeAt
+  judge-on zero m k q =
+      let z : k ≡ length s = omega arith in
+      let y : 0 + m ≡ m = omega arith in
+      rw y (ap (judgeFrom e rules sheet m) (rw z (take-length s)))
+  judge-on (suc j) m k q =
+      let y : suc j + m ≡ suc (j + m) = omega arith in
+      rw y (judge-more e rules sheet (j + m) (take k s) (nodeAt s k) (goes-here k (omega arith))
+      ∙ ap (judgeFrom e rules sheet (j + m)) (sym (take-suc s k _ (omega arith)))
+      ∙ judge-on j m (suc k) (omega arith))
 
   pub judge-of : length sheet / recordBytes e ≡ length s → judge e rules sheet ≡ proper s
-  unfolding judge
-  judge-of q = judge-rest (length sheet / recordBytes e) 0 (omega arith)
+  unfolding judge judgeFrom
+  judge-of q = let z : length sheet / recordBytes e ≡ length s + 0 = omega arith in rw z (judge-on (length s) 0 0 (omega arith))

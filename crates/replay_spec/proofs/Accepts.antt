@@ -50,7 +50,7 @@ module _ (k n : ℕ) (s : State) (last : s .tally .next ≡ suc n) where
       by-place nowhere q = cc
       by-place (at i x) q = rw last
 
-held-ending : (k : ℕ) (s : State) (r : Result) → ending k s ≡ accepted r → held (s .tally .next - 1) (s .slots) ≡ true
+pub held-ending : (k : ℕ) (s : State) (r : Result) → ending k s ≡ accepted r → held (s .tally .next - 1) (s .slots) ≡ true
 unfolding ending byLast lastOf look held isPlace
 held-ending k s r = by-next (s .tally .next)
   where
@@ -62,7 +62,7 @@ held-ending k s r = by-next (s .tally .next)
     by-next zero e = cc
     by-next (suc n) e = let o : suc n - 1 ≡ n = omega arith in rw o (by-place (find (holding n) (s .slots)) e)
 
-mirrored-ending : (k : ℕ) (rs : List Record) (s : State) → Mirrors rs s → Held rs (length (nodesOf rs) - 1) → ending k s ≡ accepted (resultOf rs)
+pub mirrored-ending : (k : ℕ) (rs : List Record) (s : State) → Mirrors rs s → Held rs (length (nodesOf rs) - 1) → ending k s ≡ accepted (resultOf rs)
 mirrored-ending k rs s m h =
     let last = length (nodesOf rs) - 1 in
     let is : suc last ≡ length (nodesOf rs) = omega (arith, h .0) in
@@ -78,7 +78,7 @@ module _ (e : Edition) (sheet rules : List ℕ) (slots : List Slot) (rs : List R
   pub proper-accepted : peakFrom 0 rs ≤ length slots
       → replay e sheet rules slots .answer ≡ accepted (resultOf rs)
   proper-accepted peak =
-      let y = so-far e sheet rules slots rs lengths (proper .read .each) (proper .each) (length rs) (le-refl (length rs)) (rw (take-length rs) peak) in
+      let y = so-far e sheet rules slots rs (length rs) lengths (le-refl (length rs)) (proper .read .each) (proper .each) (length rs) (le-refl (length rs)) (rw (take-length rs) peak) in
       let m = rw (take-length rs) at (y .mirrors) in
       replay-ends e sheet rules slots (length rs) lengths (y .first)
       ∙ mirrored-ending (length rs) rs (afterSteps e rules sheet (start slots) (length rs)) m (proper .ends)
@@ -89,7 +89,7 @@ module _ (e : Edition) (sheet rules : List ℕ) (slots : List Slot) (rs : List R
       let k = firstOver (length slots) 0 rs in
       let s = afterSteps e rules sheet (start slots) k in
       let o = first-over (length slots) 0 rs (omega arith) peak in
-      let y = so-far e sheet rules slots rs lengths (proper .read .each) (proper .each) k (omega (arith, o .inside)) (o .before) in
+      let y = so-far e sheet rules slots rs (length rs) lengths (le-refl (length rs)) (proper .read .each) (proper .each) k (omega (arith, o .inside)) (o .before) in
       let m = y .mirrors in
       let (x, is) = o .new in
       let p : ProperAfter e rules (take k rs) (node x) = rw is at (proper .each k (o .inside)) in

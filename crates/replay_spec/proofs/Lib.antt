@@ -2,6 +2,8 @@ pub mod Slots
 pub mod Steps
 pub mod Runs
 pub mod Mirrors
+pub mod Stops
 pub mod Accepts
+pub mod Refuses
 pub mod Sound
 pub mod Plenty

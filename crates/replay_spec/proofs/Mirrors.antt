@@ -19,12 +19,12 @@ use Rattle.sheet.specs.Reasons.{unless, andThen}
 use Rattle.sheet.specs.Records.{Node, given, step, Record, node, drop, clause, reads}
 use Rattle.sheet.specs.Fields.{reading, recordAt}
 use Rattle.sheet.specs.Checks.{checkEarlier}
-use Rattle.sheet.specs.Counts.{nodesOf, stepsOf, peakFrom}
+use Rattle.sheet.specs.Counts.{nodesOf, stepsOf, heldFrom, peakFrom}
 use Rattle.sheet.specs.Proper.{recordIn, clauseIn, Held, ProperAfter}
 use Rattle.sheet.proofs.Reasons.{unless-fine, fine-unless, andThen-fine}
 use Rattle.sheet.proofs.Fine.{Lengths, fine-earlier, step-fine, fine-step, given-fine, fine-given}
 use Rattle.tally.specs.Tally.{Tally, nothing, counted, tallied}
-use Rattle.tally.proofs.Tallied.{heldFrom, Counts, tallied-counts, tallied-more}
+use Rattle.tally.proofs.Tallied.{Counts, tallied-counts, tallied-more}
 use Rattle.replay_spec.specs.Slots.{Slot, held, clauseHeld, room}
 use Rattle.replay_spec.specs.Step.{State, checkHeld, checkRoom, firstOf, checkRecord, stored, after}
 use Rattle.replay_spec.specs.Replay.{start}
@@ -209,10 +209,10 @@ module _ (e : Edition) (rules : List ℕ) (done : List Record) (s : State) (m : 
       ((left, right, plus, minus, result), unless-fine _ Full Fine (andThen-fine _ _ room-left .0) .0)
   fine-proper (drop n) v = (fine-held n (andThen-fine _ _ (andThen-fine _ _ v .1) .0), tt)
 
--- ---- after k records
+-- ---- after k of the records that a sheet of n begins with
 
 module _ (e : Edition) (sheet rules : List ℕ) (slots : List Slot) (rs : List Record)
-    (l : Lengths e (replayRecords e) (length sheet) (length rules) (length rs))
+    (n : ℕ) (l : Lengths e (replayRecords e) (length sheet) (length rules) n) (within : length rs ≤ n)
     (read : (k : ℕ) → k < length rs → reading e true (recordAt e sheet k) ≡ reads (recordIn rs k))
     (each : (k : ℕ) → k < length rs → ProperAfter e rules (take k rs) (recordIn rs k)) where
   -- the first k records are taken, and the state then mirrors them
@@ -236,7 +236,7 @@ module _ (e : Edition) (sheet rules : List ℕ) (slots : List Slot) (rs : List R
       let r = recordIn rs k in
       let fits = roomy k r y peak in
       let g = turn-goes e rules (recordAt e sheet k) s r (read k h) (proper-fine e rules (take k rs) s (y .mirrors) r (each k h) fits) in
-      let (more, then) = taken-more e sheet rules slots (length rs) l k h (y .first) (after s r) g in
+      let (more, then) = taken-more e sheet rules slots n l k (omega arith) (y .first) (after s r) g in
       record {
         first = more;
         mirrors = rw (then, take-suc rs k (node (given 0 none)) h) (after-mirrors e rules (take k rs) s (y .mirrors) r (each k h) fits);

@@ -14,8 +14,7 @@ use borrow.Author.Tests.{ltb-true, ltb-false}
 use Rattle.clause.specs.Clauses.{none}
 use Rattle.sheet.specs.Editions.{Edition}
 use Rattle.sheet.specs.Records.{Node, given, Record, node, drop, clause, nodeAt}
-use Rattle.sheet.specs.Counts.{nodesOf, peakFrom, firstOver}
-use Rattle.tally.proofs.Tallied.{heldFrom}
+use Rattle.sheet.specs.Counts.{nodesOf, heldFrom, peakFrom, firstOver}
 use Rattle.sheet.specs.Proper.{recordIn, clauseIn, Held, ProperAfter}
 
 -- ---- nodes, steps, the number held, peak

@@ -1,3 +1,4 @@
 pub mod Slots
 pub mod Step
 pub mod Replay
+pub mod Refused

@@ -1,12 +1,12 @@
 -- What the tally of a run of records comes to: the nodes, the steps and the peak that the definitions count.
 use mathlib.Core.Path.{_≡_, refl, ap, _∙_}
 use mathlib.Core.List.{List, [], _∷_, _++_}
-use Prim.Native.Nat.{ℕ, suc, _+_, _-_, _≤_, max}
+use Prim.Native.Nat.{ℕ, suc, _+_, _≤_, max}
 use native.Mathlib.Numerals.{add-one}
 use native.Mathlib.Omega.{arith}
 use lib.ListN.{length}
 use Rattle.sheet.specs.Records.{Record, node, drop}
-use Rattle.sheet.specs.Counts.{nodesOf, stepsOf, peakFrom}
+use Rattle.sheet.specs.Counts.{nodesOf, stepsOf, heldFrom, peakFrom}
 use Rattle.tally.specs.Tally.{Tally, counted, tallied}
 
 pub tallied-append : (xs ys : List Record) (t : Tally) → tallied (xs ++ ys) t ≡ tallied ys (tallied xs t)
@@ -17,12 +17,6 @@ tallied-append (x ∷ xs) ys t = tallied-append xs ys (counted t x)
 pub tallied-more : (rs : List Record) (r : Record) (t : Tally) → tallied (rs ++ (r ∷ [])) t ≡ counted (tallied rs t) r
 unfolding tallied
 tallied-more rs r t = tallied-append rs (r ∷ []) t
-
--- the number of nodes held after a run, with so many before it
-unfoldable pub heldFrom : ℕ → List Record → ℕ
-heldFrom h [] = h
-heldFrom h (node n ∷ rs) = heldFrom (suc h) rs
-heldFrom h (drop n ∷ rs) = heldFrom (h - 1) rs
 
 -- of a tally in which no more are held than its peak
 pub record Counts (rs : List Record) (t u : Tally) : Type 0 where
