@@ -1,5 +1,5 @@
 #!/usr/bin/env python3
-"""contracts.py [--write | --numbers]: checks docs/CONTRACTS.md and docs/PROMISES.md against the source.
+"""contracts.py [--write]: checks docs/CONTRACTS.md and docs/PROMISES.md against the source.
 
 docs/CONTRACTS.md lists each `pub fn` of crates/*/src, methods included, with its contract; --write makes the page anew. A `pub(crate)` function is
 used by its own crate alone and is not listed. It is an error if
@@ -11,8 +11,8 @@ used by its own crate alone and is not listed. It is an error if
   - one of the three promises of which the demands say that nothing else satisfies it is not the contract's own equation;
   - a definition of crates/*/specs is used nowhere;
   - docs/PROMISES.md names a must-fail edit that does not exist, or leaves one out, or an edit's text does not occur once in its file;
-  - a function has more than 40 lines, or a file of crates/ more than 400.
---numbers lists instead the places that write a limit of the scope document as a number (see `numbers`).
+  - a function has more than 40 lines, or a file of crates/ more than 400;
+  - code, a contract or a definition writes a limit of the scope document as a number (see `numbers`).
 The last line is 'N passed, M failed'."""
 import pathlib, re, sys
 
@@ -39,7 +39,7 @@ NAMED = ("sheet/src/limits.rt", "sheet/specs/Editions.antt")
 # Other places that may write one of these numbers: the file, what the line has (nothing: any line), and why.
 ALLOWED = [
     ("clause/specs/Denote.antt", "width = 64", "the digits of a machine word, which is a set; the crate stands below the limits"),
-    ("clause/src/lib.rt", "v < 64", "the same in the code"),
+    ("clause/src/lib.rt", "WIDTH: u8 = 64", "the same in the code"),
     ("sheet/specs/Reasons.antt", "numberOf NotHeld = 16", "the number of a refusal"),
     ("sheet/src/lib.rt", "Reason::NotHeld => 16", "the number of a refusal"),
     ("demands/specs/Starred.antt", "", "worked sheets, byte by byte"),
@@ -196,8 +196,6 @@ def numbers():
 
 
 def main():
-    if sys.argv[1:] == ["--numbers"]:
-        return finish(1, [*numbers()])
     wrong, page, checked = [], HEAD, 0
     allowed = exceptions()
     for path in sorted(CRATES.glob("*/src/**/*.rt")):
@@ -222,7 +220,7 @@ def main():
         count = path.read_text().count("\n")
         if count > FILE_LINES:
             wrong.append(f"{path.relative_to(ROOT)} has {count} lines, and at most {FILE_LINES} are allowed")
-    wrong += [*unused(), *edits(), *retold()]
+    wrong += [*unused(), *edits(), *retold(), *numbers()]
     finish(checked + len([*CRATES.glob("*/must-fail/*.edit")]), wrong)
 
 
