@@ -7,7 +7,7 @@ use native.Mathlib.Numerals.{add-one}
 use native.Mathlib.Omega.{arith}
 use lib.Arith.{mod-mul}
 use lib.ListN.{length, getD, set, take, drop, length-append, length-drop, take-append-drop}
-use lib.Seq.{take-add, take-at, drop-at, drop-drop, drop-append-add, set-split, length-take-le, getD-take, getD-drop, append-snoc, take-suc}
+use lib.Seq.{take-add, take-at, drop-at, drop-drop, drop-append-add, set-split, length-take-le, getD-take, getD-drop, append-snoc}
 use Rattle.base.specs.Bytes.{value, bytes, part, valueAt, put}
 
 -- ---- the number that bytes say

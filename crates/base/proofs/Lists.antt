@@ -1,5 +1,5 @@
 -- Laws of lists that the passes share: both ways of a test, bounds of entries, clearing.
-use mathlib.Core.Path.{_≡_, refl, sym, ap, _∙_}
+use mathlib.Core.Path.{_≡_, refl, ap, _∙_}
 use mathlib.Core.Bool.{Bool, true, false, cond}
 use mathlib.Core.List.{List, [], _∷_, _++_, append-nil, map}
 use Prim.Native.Nat.{ℕ, zero, suc, _+_, _≤_, _<_}

@@ -3,7 +3,6 @@ use Prim.Native.Nat.{ℕ, _<_}
 use mathlib.Core.Path.{_≡_}
 use mathlib.Core.List.{List}
 use lib.ListN.{length}
-use Rattle.clause.specs.Clauses.{Literals}
 use Rattle.clause.specs.Denote.{literalsOf}
 use Rattle.clause.specs.declared.Clause.{Clause}
 use Rattle.sheet.specs.declared.LineNo.{LineNo}

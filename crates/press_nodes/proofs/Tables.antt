@@ -1,7 +1,6 @@
 -- Laws of the press's tables: what the word of a link says, what stores make of links, clauses and nodes, and where the parents of sound links stand.
 use mathlib.Core.Path.{_≡_, refl, sym, ap, ap₂, _∙_}
-use mathlib.Core.Bool.{Bool, true, false, cond}
-use mathlib.Core.List.{List, [], _∷_, map}
+use mathlib.Core.List.{List, [], _∷_}
 use Prim.Native.Nat.{ℕ, zero, suc, _+_, _*_, _/_, _%_, _<_, _≤_}
 use native.Mathlib.Omega.{arith}
 use native.Mathlib.Decide.{ℕ-discrete, decLt}
@@ -11,9 +10,9 @@ use lib.Seq.{getD-take, getD-set-same, getD-set-other}
 use borrow.Author.Tests.{eq-eqb, ne-eqb}
 use Rattle.base.proofs.Lists.{map-set}
 use Rattle.clause.specs.Clauses.{Literals, literals}
-use Rattle.sheet.specs.Records.{Node, given, step, clause, nodeAt}
+use Rattle.sheet.specs.Records.{given, step, clause, nodeAt}
 use Rattle.press_spec.specs.Links.{Link, leaf, join, link, links, linkAt}
-use Rattle.press_nodes.specs.Tables.{ofOne, ofTwo, pivotAt, leftAt, rightAt, lineAt, linkOf, linksIn, clauseWords, clausesIn, changed, beside, nodeOf, nodesIn, Sound, Links, Nodes}
+use Rattle.press_nodes.specs.Tables.{ofOne, ofTwo, pivotAt, leftAt, rightAt, lineAt, linkOf, linksIn, clauseWords, clausesIn, changed, beside, nodeOf, nodesIn, Sound, Links}
 use Rattle.press_spec.proofs.Nodes.{Falls, Falling}
 
 -- ---- links
@@ -167,10 +166,6 @@ unfolding linksIn
 links-take zero h = refl
 links-take (suc k) [] = refl
 links-take (suc k) (x ∷ h) = ap (λ (t : List Link). linkOf x ∷ t) (links-take k h)
-
-pub nodes-take : (k : ℕ) (h c : List ℕ) → nodesIn (take k h) (take (clauseWords k) c) ≡ take k (nodesIn h c)
-unfolding nodesIn
-nodes-take k h c = rw (links-take k h) (beside-take nodeOf k (linksIn h) (clausesIn c) (clausesIn (take (clauseWords k) c)) (clauses-take k c))
 
 -- ---- sound links: their parents stand earlier
 

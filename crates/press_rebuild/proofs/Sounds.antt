@@ -9,13 +9,13 @@ use Rattle.base.proofs.Folds.{rise-by, rise-next}
 use Rattle.sheet.specs.Editions.{mostLines}
 use Rattle.sheet.specs.Records.{Node, given, step, nodeAt}
 use Rattle.clause.specs.Denote.{width}
-use Rattle.press_spec.specs.Links.{Link, leaf, join, link, links, linkAt}
+use Rattle.press_spec.specs.Links.{link, linkAt}
 use Rattle.press_spec.specs.Recycle.{Fate, lost, kept}
 use Rattle.press_spec.specs.Rebuild.{Built, built, standIn, Way, takeLeft, takeRight, stepAnew, wayOf, standing, standsFor, newStep, byWay, renew, rebuildTurn, rebuild}
-use Rattle.press_nodes.specs.Tables.{linksIn, clauseWords, nodesIn, Sound, Links, Nodes}
+use Rattle.press_nodes.specs.Tables.{linksIn, clauseWords, nodesIn, Sound, Nodes}
 use Rattle.press_rebuild.specs.Ways.{StandIns}
-use Rattle.press_spec.proofs.Nodes.{Falls, Earlier, link-at, everywhere}
-use Rattle.press_nodes.proofs.Tables.{nodes-length, link-in, AllSound, sound-falls}
+use Rattle.press_spec.proofs.Nodes.{Falls, Earlier, everywhere}
+use Rattle.press_nodes.proofs.Tables.{nodes-length, link-in, sound-falls}
 use Rattle.press_spec.proofs.Rebuilt.{Rebuilding, rebuilding, rebuilt}
 
 -- ---- a sound node is of sound numbers, and its parents are smaller

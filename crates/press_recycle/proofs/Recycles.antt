@@ -17,7 +17,7 @@ use Rattle.press_nodes.specs.declared.fate.Cut.{Cut as CodeCut}
 use Rattle.press_nodes.specs.declared.fate.Cut.the-variants.{Left, Right, None}
 use Rattle.press_spec.specs.Links.{Link, leaf, join, linkAt, sink}
 use Rattle.press_spec.specs.Recycle.{Reach, unreached, reached, Fit, hand, Cut, cutLeft, cutRight, uncut, cutOf, handOn, visit, recycleTurn, recycle, kept, fate, fates}
-use Rattle.press_nodes.specs.Tables.{linksIn, clausesIn, Links}
+use Rattle.press_nodes.specs.Tables.{linksIn, clausesIn}
 use Rattle.press_nodes.specs.Fates.{cutIn, cutByte, fateOf, fatesIn}
 use Rattle.press_recycle.specs.Passes.{reachIn, reachesIn, Fated}
 use Rattle.press_nodes.proofs.Tables.{links-length}

@@ -13,7 +13,7 @@ use borrow.Author.Tests.{eqb-true, eqb-false, ne-eqb, not-true, not-false}
 use Rattle.sheet.specs.Records.{Node, Record, node, drop, nodeAt}
 use Rattle.sheet.specs.Counts.{nodesOf}
 use Rattle.sheet.specs.Proper.{recordIn}
-use Rattle.press_spec.specs.Links.{Link, leaf, join, link, links, linkAt}
+use Rattle.press_spec.specs.Links.{Link, leaf, join, link, links}
 use Rattle.press_spec.specs.Trim.{usesIn, uses}
 use Rattle.press_spec.specs.Order.{placed}
 use Rattle.press_spec.specs.Drops.{dropLast, dropsAfter, withDrops}

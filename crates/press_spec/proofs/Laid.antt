@@ -13,7 +13,7 @@ use Rattle.clause.specs.Clauses.{none}
 use Rattle.sheet.specs.Editions.{Edition}
 use Rattle.sheet.specs.Records.{Node, given, step, clause, nodeAt}
 use Rattle.sheet.specs.Counts.{stepOf, stepsOf}
-use Rattle.press_spec.specs.Links.{Link, leaf, join, link, links, linkAt, sink, Parents}
+use Rattle.press_spec.specs.Links.{Link, leaf, join, link, links, sink, Parents}
 use Rattle.press_spec.specs.Trim.{usesIn, uses}
 use Rattle.press_spec.specs.Order.{placed, numberIn, renumber, laid, InOrder}
 use Rattle.press_spec.specs.Press.{conclusion}

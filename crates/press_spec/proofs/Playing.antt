@@ -9,7 +9,7 @@ use native.Mathlib.Decide.{ℕ-discrete, decLe}
 use lib.Dec.{eqb}
 use borrow.Author.Tests.{eqb-false, eq-eqb, ne-eqb, not-true}
 use Rattle.base.proofs.Lists.{cond-both}
-use Rattle.sheet.specs.Records.{Node, Record, node, drop}
+use Rattle.sheet.specs.Records.{Record, node, drop}
 use Rattle.sheet.specs.Counts.{nodesOf, peakFrom}
 use Rattle.press_spec.specs.Links.{Link, link, links}
 use Rattle.press_spec.specs.Trim.{usesIn, uses}

@@ -9,7 +9,7 @@ use Rattle.sheet.specs.declared.Verdict.{Verdict}
 use Rattle.sheet.specs.declared.Verdict.the-variants as W
 use Rattle.sheet.specs.Editions.{narrow, recordBytes, lineBytes, pressRecords, tableLines}
 use Rattle.press_spec.specs.Judge.{Sizes, sizes, checkPress}
-use Rattle.press_spec.specs.Press.{Call, call, Outcome, outcome, accepted, pressed, press}
+use Rattle.press_spec.specs.Press.{Call, call, Outcome, outcome, pressed, press}
 use Rattle.press_spec.proofs.Nodes.{proper-falling}
 use Rattle.press_spec.proofs.Drops.{length-withDrops-most}
 use Rattle.press_spec.proofs.Accepts.{Enough, press-fine, accepted-says}

@@ -11,7 +11,7 @@ use lib.ListN.{length, take}
 use lib.Seq.{take-length, append-snoc, ext-getD}
 use borrow.Author.Tests.{ltb-true, le-ltb}
 use Rattle.clause.specs.Clauses.{none}
-use Rattle.sheet.specs.declared.Reason.the-variants.{Full, NotHeld}
+use Rattle.sheet.specs.declared.Reason.the-variants.{Full}
 use Rattle.sheet.specs.Editions.{Edition, narrow, recordBytes, replayRecords}
 use Rattle.sheet.specs.Reasons.{numberOf}
 use Rattle.sheet.specs.Records.{given, Record, node, drop, reads}

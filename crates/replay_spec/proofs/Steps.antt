@@ -136,16 +136,6 @@ pub step-by-turn : (e : Edition) (rules b : List ℕ) (k : ℕ) (s : State) (t :
 unfolding oneStep
 step-by-turn e rules b k s t f q = rw f (ap (λ (x : Turn). numbered k (byTurn s x)) q)
 
-pub step-is-turn : (e : Edition) (rules b : List ℕ) (k : ℕ) (s : State)
-    → checkTable e (length rules) ≡ Fine
-    → length b ≡ recordBytes e
-    → s .tally .next < replayRecords e
-    → s .tally .held ≤ s .tally .next
-    → s .tally .steps ≤ s .tally .next
-    → oneStep e rules b k s ≡ numbered k (byTurn s (turn e rules b s))
-step-is-turn e rules b k s table size few held steps =
-    step-by-turn e rules b k s (turn e rules b s) (fits-within e rules b (s .tally) table size few held steps) refl
-
 -- ---- a record in a run
 
 fine-goes : (s : State) (t : Turn) → byTurn s t .verdict ≡ Fine → t ≡ goes (byTurn s t .state)

@@ -1,11 +1,9 @@
 use mathlib.Core.Path.{_≡_, sym, ap, _∙_}
 use mathlib.Core.List.{List, [], _∷_}
 use Prim.Native.Nat.{ℕ, _+_}
-use lib.ListN.{drop as after}
 use Rattle.sheet.specs.Records.{Node, Record, node, nodeAt}
-use Rattle.press_spec.specs.Drops.{dropLast}
 use Rattle.press_nodes.specs.Tables.{linksIn, nodesIn}
-use Rattle.press_emit.specs.Emission.{Emission, emissionOf, emitRecord, emitAll, Roomy}
+use Rattle.press_emit.specs.Emission.{Emission, emissionOf, emitRecord}
 use Rattle.press_nodes.proofs.Tables.{links-nodes, link-in}
 use Rattle.press_nodes.proofs.Found.{found-leaf, found-join}
 use Rattle.press_drops.proofs.Rooms.{turn-room, turn-leaf, Stepped, same-room, turn-same, low-room, high-room, turn-two}

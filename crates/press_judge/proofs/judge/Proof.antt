@@ -1,11 +1,10 @@
-use mathlib.Core.Path.{_≡_, refl, sym, ap, _∙_}
+use mathlib.Core.Path.{_≡_, refl, ap, _∙_}
 use mathlib.Core.List.{List}
 use Prim.Native.Nat.{ℕ, _+_, _-_, _*_, _<_, _≤_}
 use native.Mathlib.Omega.{arith}
 use lib.ListN.{length, take, drop, length-take, length-drop}
 use Rattle.sheet.specs.Editions.{narrow, recordBytes}
 use Rattle.sheet.specs.Fields.{recordAt}
-use Rattle.sheet.specs.Records.{Node}
 use Rattle.sheet.proofs.RecordBytes.{lent-is}
 use Rattle.press_spec.specs.Judge.{bad}
 use Rattle.press_nodes.specs.Tables.{clauseWords, nodesIn}

@@ -3,7 +3,6 @@ use mathlib.Core.List.{List}
 use native.Mathlib.Omega.{arith}
 use Rattle.clause.specs.Denote.{literalsOf}
 use Rattle.sheet.specs.declared.Verdict.{Verdict}
-use Rattle.sheet.specs.declared.Verdict.the-variants.{Refused}
 use Rattle.sheet.specs.declared.Reading.the-variants.{Reads}
 use Rattle.sheet.specs.Denote.{recordOf, readingOf, verdictOf}
 use Rattle.sheet.specs.Records.{Node, given, step}

@@ -5,7 +5,7 @@ use lib.ListN.{length}
 use Rattle.base.specs.Folds.{rise}
 use Rattle.press_nodes.specs.Tables.{clauseWords, nodesIn}
 use Rattle.press_nodes.proofs.Tables.{nodes-length}
-use Rattle.press_lay.specs.Laying.{layTurn, Laying}
+use Rattle.press_lay.specs.Laying.{layTurn}
 use Rattle.press_lay.proofs.Laying.{turn-next, all-laid}
 use borrow.Author.Needs.{needs}
 use Rattle.press_lay.proofs.lay.Statement.{statement}

@@ -1,8 +1,7 @@
-use mathlib.Core.Path.{_≡_, sym, ap, _∙_}
+use mathlib.Core.Path.{_≡_, _∙_}
 use native.Mathlib.Omega.{arith}
-use Prim.Native.Nat.{ℕ, _≤_}
+use Prim.Native.Nat.{_≤_}
 use lib.ListN.{getD}
-use Rattle.press_nodes.specs.Tables.{nodesIn}
 use Rattle.press_lay.proofs.Laying.{number-inside, parents-known, turn-none, turn-some}
 use borrow.Author.Needs.{needs}
 use Rattle.press_lay.proofs.lay_turn.Statement.{statement}

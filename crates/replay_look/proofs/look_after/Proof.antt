@@ -129,7 +129,7 @@ module _ {M : Type 1} (𝓤 : URA M) (H : Heap 𝓤) (A : Atoms 𝓤) (W : Given
         call-plain ! fm empty′.ended (empty′.clauses 𝓤 H A at-mem run) known-empty tt tt tt (id⊢ 𝓤 _) tt sv (LL.tells T.the-type T′.the-laws) tt tt tt tt (id⊢ 𝓤 _) (λ s. slotOf s ≡ empty) (λ s e. id⊢ 𝓤 _) (no-more !) (λ s es is.
         land ! (from ! (stop !)) (init ! 8 refl (LL.lawful T.the-type T′.the-laws 𝓤 H A W .typed s _ is .0)) $
         -- the array is written whole
-        assigns ! (rep ! 1023 (load ! (from ! (stop !)) (look ! 8 refl))) (from ! (stop !)) (init ! 6 refl (array-lawful 𝓤 H A W T.the-row (LL.lawful T.the-type T′.the-laws 𝓤 H A W) (replayRecords narrow) .typed (replicate (replayRecords narrow) s) _ (repeat-is T.the-row (replayRecords narrow) s (sv s) is) .0)) $
+        assigns ! (rep ! (replayRecords narrow) (load ! (from ! (stop !)) (look ! 8 refl))) (from ! (stop !)) (init ! 6 refl (array-lawful 𝓤 H A W T.the-row (LL.lawful T.the-type T′.the-laws 𝓤 H A W) (replayRecords narrow) .typed (replicate (replayRecords narrow) s) _ (repeat-is T.the-row (replayRecords narrow) s (sv s) is) .0)) $
         call-plain ! fm enough′.ended (enough′.clauses 𝓤 H A at-mem run) known-enough tt tt tt (id⊢ 𝓤 _) (uint-makes 𝓤 H A W w64, tt) (vint w64) (uint-tells w64) (slots, tt) (vint w64 slots ∷ [], tt) ((refl, gs), tt) tt (id⊢ 𝓤 _) (λ n. n ≡ min slots (replayRecords narrow)) (λ n e. id⊢ 𝓤 _)
         (and-then ! (load ! (from ! (stop !)) (look ! 15 refl)) (no-more !)) (λ n en gn.
         land ! (from ! (stop !)) (init ! 4 refl (tt, record { fits = gn .1 })) $

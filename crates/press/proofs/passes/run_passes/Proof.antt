@@ -18,7 +18,6 @@ use Rattle.press_rebuild.proofs.Sounds.{rebuilt-nodes}
 use Rattle.press_order.specs.Placing.{Numbered, Orderly}
 use Rattle.press_order.proofs.Arranging.{front-long, front-again}
 use Rattle.press_order.proofs.Arranged.{arranged-order, arranged-fits, arranged-nodes}
-use Rattle.press_lay.specs.Laying.{Laying}
 use Rattle.press.specs.Emittable.{Emittable}
 use Rattle.press.proofs.Recycled.{from-below, from-pressed}
 use borrow.Author.Needs.{needs}

@@ -1,6 +1,5 @@
 use mathlib.Core.Path.{ap}
 use Prim.Native.Nat.{ℕ}
-use Rattle.clause.specs.Clauses.{Literals}
 use Rattle.press_nodes.specs.Tables.{clausesIn}
 use borrow.Author.Needs.{needs}
 use Rattle.press_nodes.proofs.clause_table.clause_at.Statement.{statement}

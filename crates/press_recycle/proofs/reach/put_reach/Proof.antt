@@ -1,6 +1,3 @@
-use mathlib.Core.Path.{ap}
-use lib.ListN.{set}
-use Prim.Native.Nat.{ℕ}
 use Rattle.press_recycle.proofs.Reaches.{reach-put}
 use borrow.Author.Needs.{needs}
 use Rattle.press_recycle.proofs.reach.put_reach.Statement.{statement}
