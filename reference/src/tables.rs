@@ -42,7 +42,6 @@ replayed sheet rules slots said = replays sheet rules slots said (clean slots)
 "#;
 
 const TELLING: &str = r#"-- Cases that tell apart what the starred sheets do not. Made by the second program: `reference tables`.
-use Prim.Native.Nat.{ℕ}
 use mathlib.Core.List.{List, [], _∷_}
 use lib.Dec.{T}
 use lib.ListN.{set}

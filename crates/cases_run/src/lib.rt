@@ -16,7 +16,16 @@
 mod press_case;
 mod replay_case;
 
+use sheet::limits::LINE_BYTES;
+use sheet::limits::RECORD_BYTES;
+use sheet::limits::REPLAY_RECORDS;
+use sheet::limits::TABLE_LINES;
 use stdio::text;
+
+// The longest sheet and rule table of a case: a little more than the limits allow.
+const SHEET: usize = RECORD_BYTES * (REPLAY_RECORDS + 2);
+
+const RULES: usize = LINE_BYTES * (TABLE_LINES + 1);
 
 struct Header {
     kind: u8,
@@ -77,8 +86,8 @@ fn run_in(number: u64, head: Header, sheet: &mut [u8], rules: &mut [u8]) -> bool
 }
 
 fn run_case(number: u64, head: Header) -> bool {
-    let mut sheet = [0u8; 24600];
-    let mut rules = [0u8; 16400];
+    let mut sheet = [0u8; SHEET];
+    let mut rules = [0u8; RULES];
     run_in(number, head, &mut sheet, &mut rules)
 }
 

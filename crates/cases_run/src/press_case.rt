@@ -2,7 +2,15 @@
 // all of them, are as they were.
 use press::PressAnswer;
 use press::Pressed;
+use sheet::limits::PRESSED_RECORDS;
+use sheet::limits::RECORD_BYTES;
+use sheet::limits::TABLE_LINES;
 use stdio::text;
+
+// The most room and marks of a case: a little more than a press needs.
+const ROOM: usize = RECORD_BYTES * PRESSED_RECORDS + 60;
+
+const MARKS: usize = TABLE_LINES + 60;
 
 // What output and marks hold before.
 const OLD: u8 = 0xA5;
@@ -69,7 +77,7 @@ fn run_in(sheet: &[u8], rules: &[u8], room: usize, marks: usize, out: &mut [u8],
 }
 
 pub(crate) fn run(sheet: &[u8], rules: &[u8], room: usize, marks: usize) {
-    let mut out = [OLD; 24612];
-    let mut core = [OLD; 1084];
+    let mut out = [OLD; ROOM];
+    let mut core = [OLD; MARKS];
     run_in(sheet, rules, room, marks, &mut out, &mut core);
 }

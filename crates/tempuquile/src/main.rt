@@ -22,13 +22,13 @@ const PRESSED: usize = RECORD_BYTES * PRESSED_RECORDS;
 fn main() {
     let mut rules = [0u8; RULES];
     let mut sheet = [0u8; SHEET];
-    let rules_read = program_files::read_file(b"rules.bin", &mut rules);
-    let Length::Whole(rules_length) = rules_read else {
+    let read_rules = program_files::read_file(b"rules.bin", &mut rules);
+    let Length::Whole(rules_length) = read_rules else {
         text::print(b"unreadable rules.bin\n");
         return;
     };
-    let sheet_read = program_files::read_file(b"sheet.bin", &mut sheet);
-    let Length::Whole(sheet_length) = sheet_read else {
+    let read_sheet = program_files::read_file(b"sheet.bin", &mut sheet);
+    let Length::Whole(sheet_length) = read_sheet else {
         text::print(b"unreadable sheet.bin\n");
         return;
     };
