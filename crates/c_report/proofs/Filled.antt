@@ -7,7 +7,7 @@ use lib.ListN.{set}
 use Rattle.sheet.specs.declared.Reason.{Reason}
 use Rattle.sheet.specs.declared.RecordNo.{RecordNo}
 use Rattle.sheet.specs.Reasons.{numberOf}
-use Rattle.press.specs.declared.Pressed.{Pressed}
+use Rattle.press_write.specs.declared.Pressed.{Pressed}
 use Rattle.press.specs.declared.PressAnswer.{PressAnswer}
 use Rattle.press.specs.declared.PressAnswer.the-variants.{Accepted, Refused}
 use Rattle.press.specs.Said.{said}

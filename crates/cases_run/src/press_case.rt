@@ -1,7 +1,7 @@
 // A case of the press: its answer; where it is accepted, the output and the marks; and whether the bytes beyond them, or where it is refused
 // all of them, are as they were.
 use press::PressAnswer;
-use press::Pressed;
+use press_write::Pressed;
 use sheet::limits::PRESSED_RECORDS;
 use sheet::limits::RECORD_BYTES;
 use sheet::limits::TABLE_LINES;

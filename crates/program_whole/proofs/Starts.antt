@@ -13,10 +13,11 @@ use Rattle.press_spec.specs.Press.{Call, call, Outcome, outcome, pressed, press
 use Rattle.press_spec.proofs.Nodes.{proper-falling}
 use Rattle.press_spec.proofs.Drops.{length-withDrops-most}
 use Rattle.press_spec.proofs.Accepts.{Enough, press-fine, accepted-says}
-use Rattle.press.specs.declared.Pressed.{Pressed}
+use Rattle.press_write.specs.declared.Pressed.{Pressed}
 use Rattle.press.specs.declared.PressAnswer.{PressAnswer}
 use Rattle.press.specs.declared.PressAnswer.the-variants.{Accepted, Refused}
-use Rattle.press.specs.Said.{reported, said}
+use Rattle.press_write.specs.Reported.{reported}
+use Rattle.press.specs.Said.{said}
 use Rattle.press.proofs.Ready.{press-refused}
 use Rattle.program_whole.specs.Whole.{Starts, Fits}
 

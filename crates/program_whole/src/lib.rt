@@ -8,7 +8,7 @@ ghost use Rattle.press.specs.Said.{said};
 ghost use Rattle.press_spec.specs.Press.{call, outcome, press};
 ghost use Rattle.program_whole.specs.Whole.{Starts, Fits};
 use press::PressAnswer;
-use press::Pressed;
+use press_write::Pressed;
 use sheet::RecordNo;
 use sheet::Verdict;
 

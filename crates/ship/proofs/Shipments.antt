@@ -16,9 +16,10 @@ use Rattle.press_spec.specs.Press.{Call}
 use Rattle.press_spec.proofs.Nodes.{proper-falling}
 use Rattle.press_spec.proofs.Drops.{length-withDrops-most}
 use Rattle.press_spec.proofs.Accepts.{accepted-says}
-use Rattle.press.specs.declared.Pressed.{Pressed}
+use Rattle.press_write.specs.declared.Pressed.{Pressed}
 use Rattle.press.specs.declared.PressAnswer.{PressAnswer}
 use Rattle.press.specs.declared.PressAnswer.the-variants as A
+use Rattle.press_write.specs.Reported.{reported}
 use Rattle.press.specs.Said as PressSaid
 use Rattle.demands.specs.Shipping.{tryOut, ship}
 use Rattle.ship.specs.declared.Shipment.the-variants as S
@@ -38,8 +39,8 @@ module _ (c : Call) (a : PressAnswer) (out marks : List ℕ) (does : Press.outco
   pub written-fits : (p : Pressed) → a ≡ A.Accepted p → length out ≡ length (c .out) → recordBytes narrow * p .records ≤ length out
   unfolding PressSaid.said
   written-fits p q long =
-      let answered : Press.press narrow c .answer ≡ Press.accepted (PressSaid.reported p) = ap (λ (o : Press.Outcome). o .answer) (sym does) ∙ ap PressSaid.said q in
-      let says = accepted-says narrow c (PressSaid.reported p) answered in
+      let answered : Press.press narrow c .answer ≡ Press.accepted (reported p) = ap (λ (o : Press.Outcome). o .answer) (sym does) ∙ ap PressSaid.said q in
+      let says = accepted-says narrow c (reported p) answered in
       let kept = says .kept in
       let most = length-withDrops-most (Press.pressed (says .input)) (proper-falling narrow (c .rules) (Press.pressed (says .input)) (kept .proper)) in
       omega (arith, most, says .recorded, kept .fits, says .enough .1 .0, long)

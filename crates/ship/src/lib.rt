@@ -5,7 +5,7 @@ ghost use Rattle.press_spec.specs.Press.{call, press};
 ghost use Rattle.demands.specs.Shipping.{ship};
 ghost use Rattle.ship.specs.Said.{saidOfShipment};
 use press::PressAnswer;
-use press::Pressed;
+use press_write::Pressed;
 use replay_answer::ReplayAnswer;
 use sheet::Reason;
 use sheet::RecordNo;

@@ -1,5 +1,5 @@
 // The one line that is printed.
-use press::Pressed;
+use press_write::Pressed;
 use sheet::Reason;
 use sheet::RecordNo;
 use stdio::text;

@@ -18,11 +18,11 @@ use Rattle.press_rebuild.proofs.Sounds.{rebuilt-nodes}
 use Rattle.press_order.specs.Placing.{Numbered, Orderly}
 use Rattle.press_order.proofs.Arranging.{front-long, front-again}
 use Rattle.press_order.proofs.Arranged.{arranged-order, arranged-fits, arranged-nodes}
-use Rattle.press.specs.Emittable.{Emittable}
-use Rattle.press.proofs.Recycled.{from-below, from-pressed}
+use Rattle.press_write.specs.Emittable.{Emittable}
+use Rattle.press_passes.proofs.Recycled.{from-below, from-pressed}
 use borrow.Author.Needs.{needs}
-use Rattle.press.proofs.passes.run_passes.Statement.{statement}
-use Rattle.press.proofs.passes.run_passes.Tie as tie
+use Rattle.press_passes.proofs.run_passes.Statement.{statement}
+use Rattle.press_passes.proofs.run_passes.Tie as tie
 
 -- ---- what is known after each pass: the table that it filled, lent again, and what stands in it
 
@@ -294,17 +294,17 @@ lay-requires c κs = let w = c .before .before .before .before .before in
 array-share-prefix-pressed-links : tie.Need-array-share-prefix-pressed-links
 array-share-prefix-pressed-links c = links-long (c .before .before)
 
-slice-aggregate-emit : tie.Need-slice-aggregate-emit
-slice-aggregate-emit c = sym (length-take-le _ _ (links-long (c .before .before .before)))
+slice-aggregate-write : tie.Need-slice-aggregate-write
+slice-aggregate-write c = sym (length-take-le _ _ (links-long (c .before .before .before)))
 
 array-share-prefix-pressed-clauses : tie.Need-array-share-prefix-pressed-clauses
 array-share-prefix-pressed-clauses c = clauses-long (c .before .before .before)
 
-slice-aggregate-emit-2 : tie.Need-slice-aggregate-emit-2
-slice-aggregate-emit-2 c = sym (length-take-le _ _ (clauses-long (c .before .before .before .before)))
+slice-aggregate-write-2 : tie.Need-slice-aggregate-write-2
+slice-aggregate-write-2 c = sym (length-take-le _ _ (clauses-long (c .before .before .before .before)))
 
-emit-requires : tie.Need-emit-requires
-emit-requires c κs = let y = c .before .before .before .before .before .before in
+write-requires : tie.Need-write-requires
+write-requires c κs = let y = c .before .before .before .before .before .before in
     let a = c .before .before .before .before .before .before .before .before .before .before .before .before .before .before .before .before .before .before .before .before .before .before .before .before .before .before .before .before .before .before .before .before .before .before .before .before .before .before .before .before .args in
     (rw (links-again y, clauses-again y) (pressed-tables y), subst (λ (s : List Node). Emittable (a .lines) s (a .out .now) (a .marks .now)) (sym (lent y)) (c .before .before .before .before .before .before .before .before .before .before .before .before .before .before .before .before .before .before .before .before .before .before .before .before .before .before .before .before .before .before .before .before .before .before .before .before .before .before .before .before .pre .1))
 
@@ -322,7 +322,7 @@ same-length-4 c = search needs
 
 returns : tie.Need-returns
 returns c = let a = c .before .before .before .before .before .before .before .before .before .before .before .before .before .before .before .before .before .before .before .before .before .before .before .before .before .before .before .before .before .before .before .before .before .before .before .before .before .before .before .before .before .before .before .before .before .args in
-    let e = c .before .before .before .before .emit .ensures in
+    let e = c .before .before .before .before .write .ensures in
     let same = lent (c .before .before .before .before .before .before .before .before .before .before .before) in (
       e .0 ∙ ap (report (a .lines)) same,
       (
@@ -366,10 +366,10 @@ run-passes-spec =
     slice-aggregate-lay-3
     lay-requires
     array-share-prefix-pressed-links
-    slice-aggregate-emit
+    slice-aggregate-write
     array-share-prefix-pressed-clauses
-    slice-aggregate-emit-2
-    emit-requires
+    slice-aggregate-write-2
+    write-requires
     same-length
     same-length-2
     same-length-3

@@ -1,0 +1,60 @@
+// "How a sheet is pressed", of nodes that are judged proper, one pass after another: 1 the uses, 2 recycle, 3 rebuild, 4 and 5 the order from the
+// sink's stand-in, in which the nodes are laid out, 6 write. The tables belong to this function, and each pass is lent the part in use.
+ghost use mathlib.Core.Path.{_≡_};
+ghost use Prim.Native.Nat.{_<_};
+ghost use lib.ListN.{length};
+ghost use Rattle.base.specs.Bytes.{put};
+ghost use Rattle.sheet.specs.Editions.{narrow};
+ghost use Rattle.sheet.specs.Fields.{sheetBytes};
+ghost use Rattle.press_spec.specs.Drops.{withDrops};
+ghost use Rattle.press_spec.specs.Press.{pressed, core, report};
+ghost use Rattle.press_nodes.specs.Tables.{nodesIn, Nodes};
+ghost use Rattle.press_write.specs.Emittable.{Emittable};
+ghost use Rattle.press_write.specs.Reported.{reported};
+use press_nodes::clause_table;
+use press_trim::uses;
+use press_write::Pressed;
+use sheet::NodeNo;
+use sheet::limits::CAPACITY;
+use sheet::limits::CLAUSE_WORDS;
+
+pub fn run_passes(
+    links: &mut [u64],
+    clauses: &mut [u64],
+    lines: usize,
+    out: &mut [u8],
+    marks: &mut [u8],
+) -> Pressed
+    requires { ⌜ Nodes (now links) (now clauses) × (0 < length (now links)) ⌝ }
+    requires { ⌜ Emittable lines (pressed (nodesIn (now links) (now clauses))) (now out) (now marks) ⌝ }
+    ensures report { λ r. ⌜ reported r ≡ report lines (pressed (nodesIn (now (links .entry)) (now (clauses .entry)))) ⌝ }
+    ensures lent { λ _. ⌜ (now (out .exit) ≡ put (now (out .entry)) 0 (sheetBytes narrow (withDrops (pressed (nodesIn (now (links .entry)) (now (clauses .entry))))))) × (now (marks .exit) ≡ put (now (marks .entry)) 0 (core lines (pressed (nodesIn (now (links .entry)) (now (clauses .entry)))))) ⌝ }
+{
+    let n = links.len();
+    let mut counts = [0u16; CAPACITY];
+    uses::uses_from(links, NodeNo((n - 1) as u16), &mut counts[..n]);
+    let mut fates = [0u8; CAPACITY];
+    press_recycle::recycle(links, &counts[..n], &mut fates[..n]);
+    let mut stand_ins = [0u16; CAPACITY];
+    press_rebuild::rebuild(links, clauses, &fates[..n], &mut stand_ins[..n]);
+    let from = NodeNo(stand_ins[n - 1]);
+    let mut numbers = [0u16; CAPACITY];
+    let count = press_order::order_from(links, from, &mut numbers[..n]) as usize;
+    let words = clause_table::words_for(count);
+    let mut pressed_links = [0u64; CAPACITY];
+    let mut pressed_clauses = [0u64; CLAUSE_WORDS];
+    press_lay::lay(
+        links,
+        clauses,
+        &numbers[..n],
+        &mut pressed_links[..count],
+        &mut pressed_clauses[..words],
+    );
+    press_write::write(
+        &pressed_links[..count],
+        &pressed_clauses[..words],
+        lines,
+        out,
+        marks,
+    )
+}
