@@ -8,13 +8,14 @@ use Rattle.tally.specs.Tally.{Tally}
 use Rattle.tally.specs.Said.{tallyOf}
 use Rattle.replay_spec.specs.Slots.{Slot, empty}
 use Rattle.replay_spec.specs.Step.{State, Step, taken, Stepped, stepped, oneStep}
+use Rattle.replay_spec.specs.Steps.{afterSteps}
 use Rattle.replay_slots.specs.Said.{saidOfStep, slotOf}
 use Rattle.replay_look.specs.declared.Look.{Look as CodeLook}
 
 -- the last record's answer, and the tally and the slots then; with no record, nothing is refused
 unfoldable pub afterRecords : Edition → List ℕ → List ℕ → State → ℕ → Stepped
 afterRecords e rules sheet s zero = stepped taken s
-afterRecords e rules sheet s (suc k) = oneStep e rules (recordAt e sheet k) k (afterRecords e rules sheet s k .state)
+afterRecords e rules sheet s (suc k) = oneStep e rules (recordAt e sheet k) k (afterSteps e rules sheet s k)
 
 -- of the slots, one; past the row, an empty one
 pub record Look : Type 0 where

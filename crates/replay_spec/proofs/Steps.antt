@@ -21,9 +21,11 @@ use Rattle.sheet.specs.Counts.{stepOf}
 use Rattle.sheet.specs.Checks.{checkTable, checkLengths}
 use Rattle.sheet.proofs.Fine.{Lengths, lengths-fine, fine-lengths, fine-table}
 use Rattle.tally.specs.Tally.{Tally, counted}
-use Rattle.replay_spec.specs.Slots.{Slot}
+use Rattle.replay_spec.specs.Slots.{Slot, cleared}
 use Rattle.replay_spec.specs.Step.{State, checkRecord, after, Turn, goes, stops, byVerdict, byReading, turn, byTurn, passes, reached, fits, Stepped, stepped, Step, taken, answered, numbered, oneStep}
-use Rattle.replay_spec.specs.Replay.{Result, refused, accepted, ending, run, start, byLengths, replay}
+unfoldable pub use Rattle.replay_spec.specs.Steps.{afterSteps}
+pub use Rattle.replay_spec.specs.Steps.{answerAt, FirstTaken}
+use Rattle.replay_spec.specs.Replay.{Result, refused, accepted, ending, run, start, outcome, byLengths, replay}
 
 -- ---- a turn
 
@@ -76,6 +78,12 @@ module _ (e : Edition) (sheet rules : List ℕ) (slots : List Slot) where
     where
       count : (f : Edition) (k : ℕ) → recordBytes f * k / recordBytes f ≡ k
       count narrow k = omega arith
+
+  -- past them the slots end free, whatever is answered
+  pub replay-clears : checkLengths e (replayRecords e) (length sheet) (length rules) ≡ Fine
+      → replay e sheet rules slots ≡ outcome (replay e sheet rules slots .answer) (cleared slots)
+  unfolding replay byLengths
+  replay-clears q = rw q
 
   pub accepted-lengths : (r : Result) → replay e sheet rules slots .answer ≡ accepted r
       → Lengths e (replayRecords e) (length sheet) (length rules) (length sheet / recordBytes e)
@@ -197,18 +205,6 @@ module _ (e : Edition) (sheet rules : List ℕ) (n : ℕ) (l : Lengths e (replay
 
 -- ---- the public step, again and again
 
--- the state after k records, each lent to the step with the state before it
-unfoldable pub afterSteps : Edition → List ℕ → List ℕ → State → ℕ → State
-afterSteps e rules sheet s zero = s
-afterSteps e rules sheet s (suc k) = oneStep e rules (recordAt e sheet k) k (afterSteps e rules sheet s k) .state
-
--- the step's answer to record k after them
-abbrev pub answerAt : Edition → List ℕ → List ℕ → State → ℕ → Step
-answerAt e rules sheet s k = oneStep e rules (recordAt e sheet k) k (afterSteps e rules sheet s k) .answer
-
-abbrev pub FirstTaken : Edition → List ℕ → List ℕ → State → ℕ → Type 0
-FirstTaken e rules sheet s k = (j : ℕ) → j < k → answerAt e rules sheet s j ≡ taken
-
 module _ (e : Edition) (sheet rules : List ℕ) (slots : List Slot) (n : ℕ) (l : Lengths e (replayRecords e) (length sheet) (length rules) n) where
   -- the tally is within, and the replay goes on from the state after k steps
   record Reaches (k : ℕ) : Type 0 where
@@ -243,20 +239,36 @@ module _ (e : Edition) (sheet rules : List ℕ) (slots : List Slot) (n : ℕ) (l
   replay-ends first = replay-is-steps n 0 (omega arith) first
 
   module _ (k : ℕ) (h : k < n) (first : FirstTaken e rules sheet (start slots) k) where
+    abbrev s : State
+    s = afterSteps e rules sheet (start slots) k
+
+    -- what the step makes of record k
+    made : (t : Turn) → turn e rules (recordAt e sheet k) s ≡ t → oneStep e rules (recordAt e sheet k) k s ≡ numbered k (byTurn s t)
+    made t g = step-turns e sheet rules n l k h s (steps-within k (omega arith) first) ∙ ap (λ (x : Turn). numbered k (byTurn s x)) g
+
     -- a turn that goes is one more that is taken, and a turn that stops is the answer
-    pub taken-more : (t : State) → turn e rules (recordAt e sheet k) (afterSteps e rules sheet (start slots) k) ≡ goes t
+    pub taken-more : (t : State) → turn e rules (recordAt e sheet k) s ≡ goes t
         → FirstTaken e rules sheet (start slots) (suc k) × (afterSteps e rules sheet (start slots) (suc k) ≡ t)
     unfolding afterSteps byTurn answered
     taken-more t g =
-        let s = afterSteps e rules sheet (start slots) k in
-        let q : oneStep e rules (recordAt e sheet k) k s ≡ stepped taken t =
-        step-turns e sheet rules n l k h s (steps-within k (omega arith) first) ∙ ap (λ (x : Turn). numbered k (byTurn s x)) g in (
+        let q : oneStep e rules (recordAt e sheet k) k s ≡ stepped taken t = made (goes t) g in (
           (λ j i. elim (ℕ-discrete j k) [ yes o ↦ rw o (ap (λ (x : Stepped). x .answer) q) | no o ↦ first j (omega arith) ]),
           ap (λ (x : Stepped). x .state) q,
         )
 
-    pub replay-stops : (why : Reason) → turn e rules (recordAt e sheet k) (afterSteps e rules sheet (start slots) k) ≡ stops why
+    pub replay-stops : (why : Reason) → turn e rules (recordAt e sheet k) s ≡ stops why
         → replay e sheet rules slots .answer ≡ refused (numberOf why) k
     replay-stops why g =
         replay-is-steps k (suc (n - suc k)) (omega arith) first
-        ∙ run-stops e rules sheet (n - suc k) k (afterSteps e rules sheet (start slots) k) why g
+        ∙ run-stops e rules sheet (n - suc k) k s why g
+
+    -- what the step does not take it refuses, and that is the answer
+    pub replay-refuses : (answerAt e rules sheet (start slots) k ≡ taken → ⊥)
+        → (why : ℕ) × (answerAt e rules sheet (start slots) k ≡ Step.refused why k) × (replay e sheet rules slots .answer ≡ refused why k)
+    unfolding byTurn answered
+    replay-refuses f = by (turn e rules (recordAt e sheet k) s) refl
+      where
+        by : (t : Turn) → turn e rules (recordAt e sheet k) s ≡ t
+            → (why : ℕ) × (answerAt e rules sheet (start slots) k ≡ Step.refused why k) × (replay e sheet rules slots .answer ≡ refused why k)
+        by (goes t) g = absurd (f (ap (λ (x : Stepped). x .answer) (made (goes t) g)))
+        by (stops why) g = (numberOf why, ap (λ (x : Stepped). x .answer) (made (stops why) g), replay-stops why g)

@@ -1,7 +1,7 @@
 -- `replay_look::look_from` meets its contract: a walk of its MIR, by hand. It is `run`'s walk with no record refused: the row is opened before the loop and closed after it, and the local tally is lent to each step beside it, with a part of the sheet. With k records passed, what stands is what stands after k of them.
 -- Assumes nothing.
 use mathlib.Core.Path.{_≡_, refl, sym, ap, _∙_}
-use Prim.Native.Nat.{ℕ, _^_, _<_, _≤_, _+_, _-_, _*_, _/_, min, zero-le}
+use Prim.Native.Nat.{ℕ, zero, suc, _^_, _<_, _≤_, _+_, _-_, _*_, _/_, min, zero-le}
 use mathlib.Core.List.{List, [], _∷_}
 use mathlib.Core.Option.{none, some}
 use lib.ListN.{length, getD}
@@ -62,6 +62,7 @@ use Rattle.tally.specs.Tally.{nothing as none-yet}
 use Rattle.tally.specs.Said.{tallyOf}
 use Rattle.replay_spec.specs.Slots.{empty, Slot as RowSlot}
 use Rattle.replay_spec.specs.Step.{State, state, taken, Step as Stands, Stepped, stepped, oneStep}
+use Rattle.replay_spec.specs.Steps.{afterSteps}
 use Rattle.replay_slots.specs.declared.Slot.{Slot}
 use Rattle.tally.specs.declared.Tally.{Tally}
 use Rattle.replay_slots.specs.declared.StepAnswer.{StepAnswer}
@@ -133,12 +134,18 @@ abbrev look-of : StepAnswer → Tally → Slot → Look
 look-of a t s = record { answer = a; tally = t; slot = s }
 
 module _ (rules sheet : List ℕ) (s₀ : State) where
+  -- the state then is the one that the steps leave
+  state-is : (k : ℕ) → afterRecords narrow rules sheet s₀ k .state ≡ afterSteps narrow rules sheet s₀ k
+  unfolding afterRecords afterSteps
+  state-is zero = refl
+  state-is (suc k) = refl
+
   -- one record more
   stands-on : (k : ℕ) (a : Stands) (s : State) (c : Stands) (t : State) → stepped a s ≡ afterRecords narrow rules sheet s₀ k → stepped c t ≡ oneStep narrow rules (lent sheet k) k s → stepped c t ≡ afterRecords narrow rules sheet s₀ (k + 1)
   unfolding afterRecords
   stands-on k a s c t e made =
       rw add-one
-      (made ∙ ap (λ (bytes : List ℕ). oneStep narrow rules bytes k s) (lent-is sheet k) ∙ ap (λ (x : Stepped). oneStep narrow rules (recordAt narrow sheet k) k (x .state)) e)
+      (made ∙ ap (λ (bytes : List ℕ). oneStep narrow rules bytes k s) (lent-is sheet k) ∙ ap (oneStep narrow rules (recordAt narrow sheet k) k) (ap (λ (x : Stepped). x .state) e ∙ state-is k))
 
   -- what is seen of it
   sees : (k n j : ℕ) (a : StepAnswer) (t : Tally) (zs : List Slot) (s : Slot) → stepped (saidOfStep a) (state (tallyOf t) (rowOf zs)) ≡ afterRecords narrow rules sheet s₀ k → k ≡ n → slotOf s ≡ getD (rowOf zs) j empty → lookOf (look-of a t s) ≡ lookAt j (afterRecords narrow rules sheet s₀ n)
