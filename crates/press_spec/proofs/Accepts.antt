@@ -5,15 +5,16 @@ use mathlib.Core.Path.{_≡_, refl, sym, ap, ap₂, _∙_}
 use mathlib.Core.List.{List, [], _∷_, map}
 use native.Mathlib.Omega.{arith}
 use lib.Dec.{leb}
-use lib.ListN.{length, take, replicate, length-map, List·getD-map}
+use lib.ListN.{length, getD, take, replicate, length-map, List·getD-map}
 use lib.Seq.{length-take-le, take-length, getD-take}
 use borrow.Author.Tests.{leb-true, le-leb}
+use Rattle.base.specs.Bytes.{put}
 use Rattle.sheet.specs.declared.Reason.the-variants.{Room}
 use Rattle.sheet.specs.declared.Verdict.{Verdict}
 use Rattle.sheet.specs.declared.Verdict.the-variants.{Fine, Refused}
 use Rattle.sheet.specs.Editions.{Edition, narrow, recordBytes, lineBytes, pressRecords}
 use Rattle.sheet.specs.Records.{Node, given, step, Record, node, drop, clause, nodeAt}
-use Rattle.sheet.specs.Fields.{recordAt, ruleLines}
+use Rattle.sheet.specs.Fields.{recordAt, sheetBytes, ruleLines}
 use Rattle.sheet.specs.Fitting.{Known}
 use Rattle.sheet.specs.Counts.{nodesOf, stepsOf, peakFrom}
 use Rattle.sheet.specs.Proper.{recordIn, clauseIn, Held, ProperAfter, ReadsAs, Proper}
@@ -27,6 +28,7 @@ use Rattle.press_spec.specs.Press.{pressed, Call, sizesOf, Report, Outco
 use Rattle.press_spec.proofs.Proper.{ProperNode, AllProper, Kept}
 use Rattle.press_spec.proofs.Judged.{AllRead, judged-proper, judge-of}
 use Rattle.press_spec.proofs.Kept.{pressed-kept}
+use Rattle.press_spec.proofs.Marks.{LineOf, line-put, put-line}
 
 -- ---- records that are all nodes
 
@@ -88,6 +90,26 @@ last-held s some =
     let whole : take (length s) (map node s) ≡ map node s = rw (← length-map s node) (take-length (map node s)) in
     rw whole at (held-first s (length s) (omega arith) (length (nodesOf (map node s)) - 1) (omega (arith, ap length (nodes-alone s))))
 
+-- ---- a proper sheet without drops
+
+module _ (e : Edition) (rules sheet : List ℕ) (s : List Node) (p : Proper e (pressRecords e) false rules sheet (map node s)) where
+  all-read : AllRead e sheet s
+  all-read k h = rw (record-alone s k) at (p .read .each k (rw (length-map s node) h))
+
+  all-proper : AllProper e rules s
+  all-proper n h =
+      after-proper s n (omega arith) e rules (nodeAt s n) (reads-pivot e false (recordAt e sheet n) (nodeAt s n) (all-read n h))
+      (rw (record-alone s n) at (p .each n (rw (length-map s node) h)))
+
+-- its nodes are proper, and there are some
+pub proper-nodes : (e : Edition) (rules sheet : List ℕ) (rs : List Record) → Proper e (pressRecords e) false rules sheet rs
+    → AllProper e rules (nodesOf rs) × (1 ≤ length (nodesOf rs))
+proper-nodes e rules sheet rs p =
+    let same = reads-nodes e sheet rs (p .read) in (
+      all-proper e rules sheet (nodesOf rs) (rw same at p),
+      omega (arith, p .some, ap length same, length-map (nodesOf rs) node),
+    )
+
 -- ---- checks 1 to 5
 
 -- room for the output of n records, and a mark for each rule line
@@ -127,9 +149,36 @@ module _ (e : Edition) (c : Call) where
   abbrev checked : Verdict
   checked = checkPress e (sizesOf c)
 
-  press-is : (s : List Node) → checked ≡ Fine → judge e rules sheet ≡ proper s → press e c ≡ emit e c (pressed s)
-  unfolding press byLengths byJudging
-  press-is s f j = rw (f, j)
+  -- what is marked is the line of a given node of t, and every such line is
+  abbrev pub MarksLines : List Node → Type 0
+  MarksLines t =
+      (line : ℕ)
+      → line < ruleLines e rules
+      → (LineOf (links t) line → getD (press e c .marks) line 0 ≡ 1) × ((getD (press e c .marks) line 0 ≡ 0 → ⊥) → LineOf (links t) line)
+
+  -- ---- a sheet that passes 1 to 5 and is judged proper
+
+  module _ (s : List Node) (fine : checked ≡ Fine) (j : judge e rules sheet ≡ proper s) where
+    does : press e c ≡ byJudging e c (proper s)
+    unfolding press byLengths
+    does = rw (fine, j)
+
+    answers : press e c .answer ≡ accepted (report (ruleLines e rules) (pressed s))
+    unfolding byJudging emit
+    answers = ap (λ (o : Outcome). o .answer) does
+
+    writes : press e c .out ≡ put (c .out) 0 (sheetBytes e (withDrops (pressed s)))
+    unfolding byJudging emit
+    writes = ap (λ (o : Outcome). o .out) does
+
+    -- "The marked lines are exactly the lines of the emitted given records, no more and no fewer."
+    marks-lines : MarksLines (pressed s)
+    unfolding byJudging emit core
+    marks-lines line h = rw does ((λ l. line-put _ _ (c .marks) line h l), (λ f. put-line _ _ (c .marks) line h f))
+
+    marks-core : press e c .marks ≡ put (c .marks) 0 (core (ruleLines e rules) (pressed s))
+    unfolding byJudging emit
+    marks-core = ap (λ (o : Outcome). o .marks) does
 
   -- every answer but a refusal comes from a sheet that passes 1 to 5 and is judged proper
   judged-accepted : (r : Report) → press e c .answer ≡ accepted r → (checked ≡ Fine) × (s : List Node) × (judge e rules sheet ≡ proper s)
@@ -153,7 +202,9 @@ module _ (e : Edition) (c : Call) where
     pub read : ReadsAs e false sheet (map node input)
     pub each : AllProper e rules input
     pub kept : Kept e rules input (pressed input)
-    pub does : press e c ≡ emit e c (pressed input)
+    pub writes : press e c .out ≡ put (c .out) 0 (sheetBytes e (withDrops (pressed input)))
+    pub marks-lines : MarksLines (pressed input)
+    pub marks-core : press e c .marks ≡ put (c .marks) 0 (core (ruleLines e rules) (pressed input))
     pub concludes : r .conclusion ≡ conclusion (pressed input)
     pub recorded : r .records ≡ length (withDrops (pressed input))
     pub counts : r .nodes ≡ length (pressed input)
@@ -162,13 +213,12 @@ module _ (e : Edition) (c : Call) where
     pub totals : r .marked ≡ total (markLines (links (pressed input)) (replicate (ruleLines e rules) 0))
 
   pub accepted-says : (r : Report) → press e c .answer ≡ accepted r → Says r
-  unfolding emit report core
+  unfolding report core
   accepted-says r a =
       let (fine, s, j) = judged-accepted r a in
       let (each, long, read) = judged-proper e rules sheet s j in
       let enough = rw (← long) at (press-fine e (sizesOf c) fine) in
-      let does = press-is s fine j in
-      let said = sym (ap (λ (o : Outcome). o .answer) does) ∙ a in
+      let said = sym (answers s fine j) ∙ a in
       let same : r ≡ report (ruleLines e rules) (pressed s) = cc in
       record {
         input = s;
@@ -179,7 +229,9 @@ module _ (e : Edition) (c : Call) where
         };
         each = each;
         kept = pressed-kept e rules s each (enough .0 .1);
-        does = does;
+        writes = writes s fine j;
+        marks-lines = marks-lines s fine j;
+        marks-core = marks-core s fine j;
         concludes = ap (λ (x : Report). x .conclusion) same;
         recorded = ap (λ (x : Report). x .records) same;
         counts = ap (λ (x : Report). x .nodes) same;
@@ -192,21 +244,17 @@ module _ (e : Edition) (c : Call) where
 
   judge-proper : (s : List Node) → Proper e (pressRecords e) false rules sheet (map node s) → judge e rules sheet ≡ proper s
   judge-proper s p =
-      let long = length-map s node in
-      let read : AllRead e sheet s = λ k h. rw (record-alone s k) at (p .read .each k (rw long h)) in
-      judge-of e rules sheet s
-      (λ n h. after-proper s n (omega arith) e rules (nodeAt s n) (reads-pivot e false (recordAt e sheet n) (nodeAt s n) (read n h))
-      (rw (record-alone s n) at (p .each n (rw long h))))
-      read (record-count e (length sheet) (length s) (rw long at (p .read .size)))
+      judge-of e rules sheet s (all-proper e rules sheet s p) (all-read e rules sheet s p)
+      (record-count e (length sheet) (length s) (rw (length-map s node) at (p .read .size)))
 
   pub proper-accepted : (rs : List Record) → Proper e (pressRecords e) false rules sheet rs → Roomy e (length rs) (sizesOf c)
       → (r : Report) × (press e c .answer ≡ accepted r)
-  unfolding emit
   proper-accepted rs p roomy =
-      let same = reads-nodes e sheet rs (p .read) in
-      let does = press-is (nodesOf rs)
-      (fine-press e (sizesOf c) (length rs) ((p .read .size, p .some, p .few, p .lines), roomy)) (judge-proper (nodesOf rs) (rw same at p)) in
-      (_, ap (λ (o : Outcome). o .answer) does)
+      let same = reads-nodes e sheet rs (p .read) in (
+        _,
+        answers (nodesOf rs) (fine-press e (sizesOf c) (length rs) ((p .read .size, p .some, p .few, p .lines), roomy))
+            (judge-proper (nodesOf rs) (rw same at p)),
+      )
 
   -- ---- what is accepted is proper
 

@@ -23,15 +23,25 @@ unfoldable pub sumBelow : (ℕ → ℕ) → ℕ → ℕ
 sumBelow f zero = 0
 sumBelow f (suc k) = f k + sumBelow f k
 
-pub sumBelow-le : (f g : ℕ → ℕ) (k : ℕ) → ((n : ℕ) → f n ≤ g n) → sumBelow f k ≤ sumBelow g k
+pub sumBelow-le : (f g : ℕ → ℕ) (k : ℕ) → ((n : ℕ) → n < k → f n ≤ g n) → sumBelow f k ≤ sumBelow g k
 unfolding sumBelow
 sumBelow-le f g zero h = omega arith
-sumBelow-le f g (suc k) h = omega (arith, h k, sumBelow-le f g k h)
+sumBelow-le f g (suc k) h = omega (arith, h k (omega arith), sumBelow-le f g k (λ n i. h n (omega arith)))
 
-sumBelow-ones : (k : ℕ) → sumBelow (λ n. 1) k ≡ k
+pub sumBelow-none : (k : ℕ) → sumBelow (λ n. 0) k ≡ 0
+unfolding sumBelow
+sumBelow-none zero = refl
+sumBelow-none (suc k) = omega (arith, sumBelow-none k)
+
+pub sumBelow-ones : (k : ℕ) → sumBelow (λ n. 1) k ≡ k
 unfolding sumBelow
 sumBelow-ones zero = refl
 sumBelow-ones (suc k) = omega (arith, sumBelow-ones k)
+
+pub sumBelow-add : (f g : ℕ → ℕ) (k : ℕ) → sumBelow (λ n. f n + g n) k ≡ sumBelow f k + sumBelow g k
+unfolding sumBelow
+sumBelow-add f g zero = refl
+sumBelow-add f g (suc k) = omega (arith, sumBelow-add f g k)
 
 sumOver-ones : (order : List ℕ) → sumOver (λ n. 1) order ≡ length order
 unfolding sumOver

@@ -10,11 +10,10 @@ use Rattle.sheet.specs.Fields.{ruleLines}
 use Rattle.sheet.specs.Fitting.{Fits, Fitting}
 use Rattle.sheet.specs.Proper.{recordIn}
 use Rattle.sheet.proofs.RecordBytes.{ruleLine-below}
-use Rattle.press_spec.specs.Links.{link}
 use Rattle.press_spec.specs.Drops.{withDrops}
 use Rattle.press_spec.proofs.Proper.{ProperNode, AllProper}
 use Rattle.press_spec.proofs.Nodes.{by-rising, proper-falling}
-use Rattle.press_spec.proofs.Drops.{each-withDrops, falls-used}
+use Rattle.press_spec.proofs.Drops.{withDrops-dropping, each-dropping, used-early}
 
 module _ (e : Edition) (rules : List ℕ) (bytes : (i : ℕ) → getD rules i 0 < 256) (s : List Node) (proper : AllProper e rules s) where
   clause-fits : (n : ℕ) (x : Node) → ProperNode e rules s n x → ((m : ℕ) → m < n → Fits e (clause (nodeAt s m))) → Fits e (clause x)
@@ -35,6 +34,6 @@ module _ (e : Edition) (rules : List ℕ) (bytes : (i : ℕ) → getD rules i 0 
 
     pub withDrops-fitting : (k : ℕ) → k < length (withDrops s) → Fitting e (recordIn (withDrops s) k)
     withDrops-fitting =
-        each-withDrops (Fitting e) s
+        each-dropping s (withDrops s) (withDrops-dropping s) (Fitting e)
         (λ n h. node-fitting n h (nodeAt s n) (proper n h) (clauses-fit n h))
-        (λ n j h u. omega (arith, falls-used n (link (nodeAt s n)) j (proper-falling e rules s proper n) u))
+        (λ j u. omega (arith, used-early s (proper-falling e rules s proper) j u))

@@ -247,4 +247,4 @@ module _ (s : List Node) (Q : ℕ → Type 0) where
         let f : ℕ → ℕ = λ n. stepOf (nodeAt s n) in
         let g : ℕ → ℕ = λ n. stepOf (nodeAt s′ n) in
         let total : sumBelow g k ≡ stepsOf s′ = rw (← q) (steps-below s′) in
-        omega (arith, steps-laid s order, order-le f (links s) Q k small order o, sumBelow-le f g k h)
+        omega (arith, steps-laid s order, order-le f (links s) Q k small order o, sumBelow-le f g k (λ n i. h n))

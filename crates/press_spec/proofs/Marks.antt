@@ -7,9 +7,10 @@ use mathlib.Core.List.{List, [], _∷_}
 use native.Mathlib.Omega.{arith}
 use native.Mathlib.Decide.{ℕ-discrete}
 use lib.Dec.{eqb}
-use lib.ListN.{length, getD, set, replicate, length-set, length-replicate}
+use lib.ListN.{length, getD, set, replicate, length-set, length-replicate, List·getD-append}
 use lib.Seq.{getD-set-same, getD-set-other}
 use borrow.Author.Tests.{eq-eqb, ne-eqb}
+use Rattle.base.specs.Bytes.{put}
 use Rattle.base.proofs.Lists.{Each, set-each, getD-blank, zeros-each}
 use Rattle.press_spec.specs.Links.{Link, leaf, join, linkAt}
 use Rattle.press_spec.specs.Drops.{markLink, markLines, total}
@@ -117,3 +118,16 @@ module _ (s : List Link) (lines : ℕ) where
 
   pub marks-counted : total (markLines s (replicate lines 0)) ≡ count lines (λ i. eqb (getD (markLines s (replicate lines 0)) i 0) 1)
   marks-counted = total-ones core each-marks ∙ rw length-marks
+
+  -- ---- put at the front of what is lent
+
+  module _ (lent : List ℕ) (line : ℕ) (h : line < lines) where
+    mark-put : getD (put lent 0 (markLines s (replicate lines 0))) line 0 ≡ getD (markLines s (replicate lines 0)) line 0
+    unfolding put
+    mark-put = List·getD-append (markLines s (replicate lines 0)) _ 0 line (rw length-marks h)
+
+    pub line-put : LineOf s line → getD (put lent 0 (markLines s (replicate lines 0))) line 0 ≡ 1
+    line-put l = mark-put ∙ line-marked line h l
+
+    pub put-line : (getD (put lent 0 (markLines s (replicate lines 0))) line 0 ≡ 0 → ⊥) → LineOf s line
+    put-line f = marked-line line (λ z. f (mark-put ∙ z))

@@ -38,10 +38,14 @@ pub nodeAt-end : (s : List Node) (m : Node) → nodeAt (s ++ (m ∷ [])) (length
 unfolding nodeAt
 nodeAt-end s m = getD-append-seam s m [] _
 
+pub uses-append : (s t : List Link) (n : ℕ) → uses (s ++ t) n ≡ uses s n + uses t n
+unfolding uses
+uses-append [] t n = omega arith
+uses-append (k ∷ s) t n = omega (arith, uses-append s t n)
+
 pub uses-more : (s : List Link) (m : Link) (n : ℕ) → uses (s ++ (m ∷ [])) n ≡ uses s n + usesIn n m
 unfolding uses
-uses-more [] m n = omega arith
-uses-more (k ∷ s) m n = omega (arith, uses-more s m n)
+uses-more s m n = omega (arith, uses-append s (m ∷ []) n)
 
 pub steps-more : (s : List Node) (m : Node) → stepsOf (s ++ (m ∷ [])) ≡ stepsOf s + stepOf m
 unfolding stepsOf

@@ -10,7 +10,7 @@ use borrow.Author.Tests.{eqb-true, eq-eqb}
 use Rattle.press_spec.specs.Links.{Link, leaf, join, linkAt, Parents}
 use Rattle.press_spec.specs.Trim.{usesIn, usesFrom}
 use Rattle.press_spec.specs.Order.{placed, rightFirst, inTurn, premises, place, orderFrom, InOrder}
-use Rattle.press_spec.proofs.Nodes.{Falls, Falling}
+use Rattle.press_spec.proofs.Nodes.{Falling}
 use Rattle.press_spec.proofs.Trimmed.{uses-left, uses-right}
 
 -- ---- what is placed
@@ -66,16 +66,6 @@ module _ (s : List Link) (Q : ℕ → Type 0) where
     pub bound : (m : ℕ) → placed m new ≡ true → (m ≤ n) ⊎ (placed m old ≡ true)
     pub fresh : (m : ℕ) → placed m new ≡ true → (m ≡ n) ⊎ (UsedLater m new ⊎ (placed m old ≡ true))
 
-  already : (n : ℕ) (old : List ℕ) → InOrder s Q old → placed n old ≡ true → Placing n old old
-  already n old o h = record {
-    order = o;
-    here = h;
-    grows = λ m k. k;
-    serves = λ m k. k;
-    bound = λ m k. inr k;
-    fresh = λ m k. inr (inr k);
-  }
-
   alone : (n : ℕ) (old : List ℕ) → InOrder s Q old → Q n → placed n old ≡ false → Parents (λ k. placed k old ≡ true) (linkAt s n)
       → Placing n old (n ∷ old)
   alone n old o q new h = record {
@@ -126,43 +116,7 @@ module _ (s : List Link) (count : ℕ → ℕ) where
   abbrev byDepth : ℕ → ℕ → List ℕ → List ℕ
   byDepth depth = λ m o. place s count depth m o
 
-  pub place-old : (depth n : ℕ) (o : List ℕ) → placed n o ≡ true → place s count (suc depth) n o ≡ o
-  unfolding place
-  place-old depth n o q = rw (q, place)
-
-  pub place-new : (depth n : ℕ) (o : List ℕ) → placed n o ≡ false
-      → place s count (suc depth) n o ≡ n ∷ premises count (λ m o. place s count depth m o) (linkAt s n) o
-  unfolding place
-  place-new depth n o q = rw (q, place)
-
   module _ (earlier : Falling s) where
-    -- above n all depths say the same
-    premises-alike : (go go′ : ℕ → List ℕ → List ℕ) (n : ℕ) (o : List ℕ) (m : Link) → Falls n m
-        → ((k : ℕ) (x : List ℕ) → k < n → go k x ≡ go′ k x) → premises count go m o ≡ premises count go′ m o
-    unfolding premises inTurn
-    premises-alike go go′ n o (leaf line) d f = refl
-    premises-alike go go′ n o (join p l r) d f = by (rightFirst count l r)
-      where
-        by : (u : Bool) → inTurn u go l r o ≡ inTurn u go′ l r o
-        by true = f l (go r o) (d .0) ∙ ap (go′ l) (f r o (d .1))
-        by false = f r (go l o) (d .1) ∙ ap (go′ r) (f l o (d .0))
-
-    alike-next : (d d′ n : ℕ) (o : List ℕ) → ((k : ℕ) (x : List ℕ) → k < n → place s count d k x ≡ place s count d′ k x)
-        → place s count (suc d) n o ≡ place s count (suc d′) n o
-    alike-next d d′ n o f = by (placed n o) refl
-      where
-        by : (u : Bool) → placed n o ≡ u → place s count (suc d) n o ≡ place s count (suc d′) n o
-        by true q = place-old d n o q ∙ sym (place-old d′ n o q)
-        by false q =
-            place-new d n o q
-            ∙ ap (λ (x : List ℕ). n ∷ x) (premises-alike (byDepth d) (byDepth d′) n o (linkAt s n) (earlier n) f)
-            ∙ sym (place-new d′ n o q)
-
-    pub place-alike : (d d′ n : ℕ) (o : List ℕ) → n < d → n < d′ → place s count d n o ≡ place s count d′ n o
-    place-alike zero d′ n o h h′ = absurd (omega arith)
-    place-alike (suc d) zero n o h h′ = absurd (omega arith)
-    place-alike (suc d) (suc d′) n o h h′ = alike-next d d′ n o (λ k x l. place-alike d d′ k x (omega arith) (omega arith))
-
     module _ (Q : ℕ → Type 0) (closed : (n : ℕ) → Q n → Parents Q (linkAt s n)) where
       abbrev Places : ℕ → (ℕ → List ℕ → List ℕ) → Type 0
       Places depth go = (n : ℕ) (old : List ℕ) → n < depth → Q n → InOrder s Q old → Placing s Q n old (go n old)
@@ -198,12 +152,21 @@ module _ (s : List Link) (count : ℕ → ℕ) where
                 then-itself s Q n l r old (go l old) (go r (go l old)) f g (below .0) (below .1) q new left right
                 (rw a (g .grows l (f .here), g .here))
 
+      -- one that is placed stays where it is, and any other comes after its premises
       placing-next : (depth : ℕ) → Places depth (byDepth depth) → Places (suc depth) (byDepth (suc depth))
+      unfolding place
       placing-next depth rec n old h q o = by (placed n old) refl
         where
           by : (u : Bool) → placed n old ≡ u → Placing s Q n old (place s count (suc depth) n old)
-          by true e = rw (place-old depth n old e) (already s Q n old o e)
-          by false e = rw (place-new depth n old e) (premises-placing (byDepth depth) depth rec n old (omega arith) q e o (linkAt s n) refl)
+          by true e = rw (e, place) (record {
+            order = search;
+            here = e;
+            grows = λ m k. k;
+            serves = λ m k. k;
+            bound = λ m k. inr k;
+            fresh = λ m k. inr (inr k);
+          })
+          by false e = rw (e, place) (premises-placing (byDepth depth) depth rec n old (omega arith) q e o (linkAt s n) refl)
 
       placing : (depth : ℕ) → Places depth (byDepth depth)
       placing zero = λ n old h q o. absurd (omega arith)
@@ -211,6 +174,17 @@ module _ (s : List Link) (count : ℕ → ℕ) where
 
       pub place-placing : (depth n : ℕ) (old : List ℕ) → n < depth → Q n → InOrder s Q old → Placing s Q n old (place s count depth n old)
       place-placing depth n old h q o = placing depth n old h q o
+
+  -- ---- placing, said of the definition
+
+  pub place-old : (depth n : ℕ) (o : List ℕ) → placed n o ≡ true → place s count (suc depth) n o ≡ o
+  unfolding place
+  place-old depth n o q = rw (q, place)
+
+  pub place-new : (depth n : ℕ) (o : List ℕ) → placed n o ≡ false
+      → place s count (suc depth) n o ≡ n ∷ premises count (λ m o. place s count depth m o) (linkAt s n) o
+  unfolding place
+  place-new depth n o q = rw (q, place)
 
 -- ---- the order from a node
 

@@ -1,5 +1,5 @@
 -- Runs of records over the set of nodes that are held: what is named is held, and never more than so many at once.
-use Prim.Native.Nat.{ℕ, zero, suc, _+_, _-_, _≤_, _<_}
+use Prim.Native.Nat.{ℕ, zero, suc, _+_, _≤_, _<_}
 use mathlib.Core.Bool.{Bool, true, false, not, cond, true≢false}
 use mathlib.Core.Path.{_≡_, refl, sym, ap, _∙_}
 use mathlib.Core.Logic.{_≢_}
@@ -10,7 +10,7 @@ use lib.Dec.{eqb}
 use borrow.Author.Tests.{eqb-false, eq-eqb, ne-eqb, not-true}
 use Rattle.base.proofs.Lists.{cond-both}
 use Rattle.sheet.specs.Records.{Record, node, drop}
-use Rattle.sheet.specs.Counts.{nodesOf, peakFrom}
+use Rattle.sheet.specs.Counts.{nodesOf}
 use Rattle.press_spec.specs.Links.{Link, link, links}
 use Rattle.press_spec.specs.Trim.{usesIn, uses}
 
@@ -69,11 +69,6 @@ unfolding count
 count-most zero H = omega arith
 count-most (suc k) H = omega (arith, cond-both (λ x. x ≤ 1) (H k) 1 0 (omega arith) (omega arith), count-most k H)
 
-pub count-all : (k : ℕ) (H : ℕ → Bool) → ((j : ℕ) → j < k → H j ≡ true) → count k H ≡ k
-unfolding count
-count-all zero H f = refl
-count-all (suc k) H f = rw (f k (omega arith)) (omega (arith, count-all k H (λ j h. f j (omega arith))))
-
 -- two sets that differ in j alone
 pub count-one-more : (k : ℕ) (H G : ℕ → Bool) (j : ℕ) → j < k → H j ≡ false → G j ≡ true → ((i : ℕ) → i ≢ j → H i ≡ G i)
     → count k G ≡ suc (count k H)
@@ -117,16 +112,6 @@ abbrev pub Plays : ℕ → ℕ → (ℕ → Bool) → List Record → Type 0
 Plays most k H [] = Unit {0}
 Plays most k H (node x ∷ rs) = ((j : ℕ) → 1 ≤ usesIn j (link x) → H j ≡ true) × (count k H < most) × Plays most (suc k) (also k H) rs
 Plays most k H (drop j ∷ rs) = (j < k) × (H j ≡ true) × Plays most k (but j H) rs
-
-pub plays-peak : (most k : ℕ) (H : ℕ → Bool) (rs : List Record) → count k H ≤ most → Plays most k H rs → peakFrom (count k H) rs ≤ most
-unfolding peakFrom
-plays-peak most k H [] h p = omega arith
-plays-peak most k H (node x ∷ rs) h p =
-    let e = count-new k H in
-    omega (arith, p .1, rw e at (plays-peak most (suc k) (also k H) rs (omega (arith, p .1)) (p .2)))
-plays-peak most k H (drop j ∷ rs) h p =
-    let e : count k (but j H) ≡ count k H - 1 = omega (arith, count-but k H j (p .0) (p .1)) in
-    omega (arith, rw e at (plays-peak most k (but j H) rs (omega arith) (p .2)))
 
 -- in any run that plays, what a later node uses is held now
 pub used-held : (most k : ℕ) (H : ℕ → Bool) (rs : List Record) → Plays most k H rs → (j : ℕ) → j < k → 1 ≤ uses (links (nodesOf rs)) j → H j ≡ true

@@ -1,30 +1,20 @@
 -- "Keep what the sink reaches through parents.": the trim marks what is reached, and nothing else.
-use Prim.Native.Nat.{ℕ, suc, _≤_, _<_}
+use Prim.Native.Nat.{ℕ, suc, _<_}
 use mathlib.Core.Path.{_≡_, refl}
 use mathlib.Core.Bool.{Bool, true, false, cond}
 use mathlib.Core.List.{List}
 use native.Mathlib.Omega.{arith}
 use native.Mathlib.Decide.{ℕ-discrete}
 use lib.Dec.{eqb}
-use lib.ListN.{length, getD, set, replicate, length-map}
+use lib.ListN.{length, getD, set, replicate}
 use lib.Seq.{getD-set-other}
 use borrow.Author.Tests.{eqb-false}
 use Rattle.base.proofs.Folds.{fall-keeps}
-use Rattle.base.proofs.Lists.{getD-blank}
-use Rattle.sheet.specs.Editions.{Edition}
-use Rattle.sheet.specs.Records.{Node}
-use Rattle.press_spec.specs.Links.{Link, leaf, join, link, links, linkAt, sink}
-use Rattle.press_spec.specs.Trim.{keepParents, trimTurn, trim}
-use Rattle.press_spec.proofs.Proper.{AllProper}
-use Rattle.press_spec.proofs.Nodes.{Falling, links-falling, proper-falling}
+use Rattle.base.proofs.Lists.{Each, set-each, zeros-each, cond-both, getD-blank}
+use Rattle.press_spec.specs.Links.{Link, leaf, join, linkAt}
+use Rattle.press_spec.specs.Trim.{keepParents, trimTurn, trim, Reaches, itself, left, right}
+use Rattle.press_spec.proofs.Nodes.{Falling}
 use Rattle.press_spec.proofs.Trimmed.{Marked, trim-keeps, trim-closed}
-use Rattle.press_spec.proofs.Kept.{sink-inside}
-
--- what `from` reaches: itself, and both parents of each step that it reaches
-pub data Reaches (s : List Link) (from : ℕ) : ℕ → Type 0 where
-  itself : Reaches s from from
-  left : {n p l r : ℕ} → Reaches s from n → linkAt s n ≡ join p l r → Reaches s from l
-  right : {n p l r : ℕ} → Reaches s from n → linkAt s n ≡ join p l r → Reaches s from r
 
 -- ---- what is reached is marked
 
@@ -62,14 +52,31 @@ module _ (s : List Link) (from : ℕ) where
       fall-keeps AllReached (trimTurn s) (λ i m. turn-reached i m (linkAt s i) (eqb (getD m i 0) 0) refl refl) (suc from) _
       (mark-reached (replicate (length s) 0) from itself (λ n h. absurd (omega (arith, getD-blank {A = ℕ} (length s) n 0))))
 
+-- ---- marks are 1 or 0
+
+module _ (s : List Link) (from : ℕ) where
+  turn-each : (m : List ℕ) (x : Link) → Each 1 m → Each 1 (keepParents x m)
+  unfolding keepParents
+  turn-each m (leaf line) f = f
+  turn-each m (join p l r) f = set-each (set m l 1) r 1 1 (set-each m l 1 1 f (omega arith)) (omega arith)
+
+  trim-each : Each 1 (trim s from)
+  unfolding trim trimTurn
+  trim-each =
+      fall-keeps (Each 1) (trimTurn s) (λ i m f. cond-both (Each 1) (eqb (getD m i 0) 0) m (keepParents (linkAt s i) m) f (turn-each m (linkAt s i) f)) (suc from) _
+      (set-each (replicate (length s) 0) from 1 1 (λ j. omega (arith, zeros-each (length s) j)) (omega arith))
+
 -- ---- both
 
-pub marked-is-reached : (s : List Link) → Falling s → (from : ℕ) → from < length s → (n : ℕ)
-    → (Marked (trim s from) n → Reaches s from n) × (Reaches s from n → Marked (trim s from) n)
-marked-is-reached s earlier from inside n = (marked-reached s from n, reached-marked s earlier from inside n)
+module _ (s : List Link) (earlier : Falling s) (from : ℕ) (inside : from < length s) (n : ℕ) where
+  pub one-reached : getD (trim s from) n 0 ≡ 1 → Reaches s from n
+  one-reached q = marked-reached s from n (omega arith)
 
--- the trim of a proper sheet from its sink
-pub kept-is-reached : (e : Edition) (rules : List ℕ) (s : List Node) → AllProper e rules s → 1 ≤ length s → (n : ℕ)
-    → (Marked (trim (links s) (sink s)) n → Reaches (links s) (sink s) n) × (Reaches (links s) (sink s) n → Marked (trim (links s) (sink s)) n)
-kept-is-reached e rules s proper full =
-    marked-is-reached (links s) (links-falling s (proper-falling e rules s proper)) (sink s) (rw (length-map s link) (sink-inside s full))
+  pub reached-one : Reaches s from n → getD (trim s from) n 0 ≡ 1
+  reached-one r = omega (arith, reached-marked s earlier from inside n r, trim-each s from n)
+
+  pub unreached-zero : (Reaches s from n → ⊥) → getD (trim s from) n 0 ≡ 0
+  unreached-zero f = elim (ℕ-discrete (getD (trim s from) n 0) 1) [
+    | yes q ↦ absurd (f (one-reached q))
+    | no q ↦ omega (arith, trim-each s from n)
+  ]

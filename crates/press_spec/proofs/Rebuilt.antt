@@ -11,12 +11,12 @@ use lib.Seq.{getD-set-same, getD-set-other}
 use Rattle.base.specs.Folds.{rise}
 use Rattle.base.proofs.Folds.{rise-by}
 use Rattle.base.proofs.Lists.{getD-blank}
-use Rattle.clause.specs.Clauses.{Literals, plus, minus, holds, resolvent}
+use Rattle.clause.specs.Clauses.{Literals, plus, minus, holds}
 use Rattle.sheet.specs.Editions.{Edition}
 use Rattle.sheet.specs.Records.{Node, given, step, clause, nodeAt}
 use Rattle.sheet.specs.Counts.{stepOf}
 use Rattle.press_spec.specs.Recycle.{Cut, cutLeft, cutRight, uncut, Fate, lost, kept}
-use Rattle.press_spec.specs.Rebuild.{Built, built, standIn, standing, Way, takeLeft, takeRight, stepAnew, wayOf, standsFor, newStep, byWay, renew, rebuildTurn, rebuild}
+use Rattle.press_spec.specs.Rebuild.{Built, built, standIn, standing, Way, takeLeft, takeRight, stepAnew, wayOf, standsFor, stepMade, newStep, byWay, renew, rebuildTurn, rebuild}
 use Rattle.press_spec.specs.Links.{Link, leaf, join, link, links, linkAt, Parents}
 use Rattle.press_spec.proofs.Proper.{ProperNode, AllProper}
 use Rattle.press_spec.proofs.Nodes.{Falls, Earlier, link-at, by-rising}
@@ -26,8 +26,7 @@ use Rattle.press_spec.proofs.Nodes.{Falls, Earlier, link-at, by-rising}
 abbrev pub ByWay : Built → Way → ℕ → ℕ → ℕ → ℕ → Type 0
 ByWay b takeLeft n p l r = standIn b n ≡ standIn b l
 ByWay b takeRight n p l r = standIn b n ≡ standIn b r
-ByWay b stepAnew n p l r =
-    (standIn b n ≡ n) × (nodeAt (b .nodes) n ≡ step p (standIn b l) (standIn b r) (resolvent p (standing b l) (standing b r)))
+ByWay b stepAnew n p l r = (standIn b n ≡ n) × (nodeAt (b .nodes) n ≡ stepMade p l r b)
 
 abbrev pub Renewed : Built → ℕ → Node → Fate → Type 0
 Renewed b n m lost = Unit {0}
@@ -142,8 +141,7 @@ module _ (s : List Node) (says : ℕ → Fate) (earlier : Earlier s) where
     unfolding newStep standIn
     standIn-newStep p l r = getD-set-same (b .standIns) i i 0 (rw (f .standIns-long) inside)
 
-    node-newStep : (p l r : ℕ)
-        → nodeAt (newStep i p l r b .nodes) i ≡ step p (standIn b l) (standIn b r) (resolvent p (standing b l) (standing b r))
+    node-newStep : (p l r : ℕ) → nodeAt (newStep i p l r b .nodes) i ≡ stepMade p l r b
     unfolding newStep nodeAt
     node-newStep p l r = getD-set-same (b .nodes) i _ _ (rw (f .nodes-long) inside)
 
@@ -177,8 +175,8 @@ module _ (s : List Node) (says : ℕ → Fate) (earlier : Earlier s) where
           let ch = changes-newStep i p l r b in
           let n = node-newStep p l r in
           extend b′ ch (omega (arith, standIn-newStep p l r))
-          (rw n (omega (arith, f .low l, before), omega (arith, f .low r, before)))
-          (rw (n, a) (steps-same p (standIn b l) (standIn b r) l r _ c))
+          (rw n (omega (arith, f .low l, f .low r, before)))
+          (rw (n, a) (steps-same p _ _ l r _ c))
           (same-way b′ ch stepAnew q (
             standIn-newStep p l r,
             rw (
@@ -255,7 +253,7 @@ module _ (e : Edition) (rules : List ℕ) (s : List Node) (says : ℕ → Fate) 
       uncut-sound true true hu hv k q =
           let o = old in
           rw (q .0, q .1) (
-            (o .0, omega (arith, f .low l, o .1), omega (arith, f .low r, o .2), hu, hv, refl),
+            (o .0, omega (arith, f .low l, f .low r, o .1, o .2), omega (arith, f .low l, f .low r, o .1, o .2), hu, hv, refl),
             ((l, omega (arith, o .1), k .0, refl), (r, omega (arith, o .2), k .1, refl)),
           )
       uncut-sound true false hu hv k q = takes r (old .2) (k .1) q

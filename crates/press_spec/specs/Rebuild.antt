@@ -35,9 +35,11 @@ unfoldable pub standsFor : ℕ → ℕ → Built → Built
 standsFor n m b = built (b .nodes) (set (b .standIns) n m)
 
 -- "A new step, which keeps the old one's number, pivot and sides."
+abbrev pub stepMade : ℕ → ℕ → ℕ → Built → Node
+stepMade p l r b = step p (standIn b l) (standIn b r) (resolvent p (standing b l) (standing b r))
+
 unfoldable pub newStep : ℕ → ℕ → ℕ → ℕ → Built → Built
-newStep n p l r b =
-    built (set (b .nodes) n (step p (standIn b l) (standIn b r) (resolvent p (standing b l) (standing b r)))) (set (b .standIns) n n)
+newStep n p l r b = built (set (b .nodes) n (stepMade p l r b)) (set (b .standIns) n n)
 
 unfoldable pub byWay : Way → ℕ → ℕ → ℕ → ℕ → Built → Built
 byWay takeLeft n p l r b = standsFor n (standIn b l) b

@@ -1,5 +1,6 @@
 -- 1. Trim: "The sink is the last record. Keep what the sink reaches through parents." And the uses of a node in what is kept.
 use Prim.Native.Nat.{ℕ, suc, _+_}
+use mathlib.Core.Path.{_≡_}
 use mathlib.Core.Bool.{cond}
 use mathlib.Core.List.{List, [], _∷_}
 use lib.Dec.{eqb}
@@ -18,6 +19,12 @@ trimTurn s n kept = cond (eqb (getD kept n 0) 0) kept (keepParents (linkAt s n) 
 -- 1 for each node that `from` reaches, 0 for each other
 unfoldable pub trim : List Link → ℕ → List ℕ
 trim s from = fall (trimTurn s) (suc from) (set (replicate (length s) 0) from 1)
+
+-- what `from` reaches, with no word of how it is found: itself, and both parents of each step that it reaches
+pub data Reaches (s : List Link) (from : ℕ) : ℕ → Type 0 where
+  itself : Reaches s from from
+  left : {n p l r : ℕ} → Reaches s from n → linkAt s n ≡ join p l r → Reaches s from l
+  right : {n p l r : ℕ} → Reaches s from n → linkAt s n ≡ join p l r → Reaches s from r
 
 -- the nodes that are kept
 unfoldable pub trimmed : List Link → List ℕ → List Link
