@@ -52,15 +52,16 @@ module _ (s : List Link) (earlier : Falling s) (from : ℕ) (inside : from < len
       closed = λ n o h. elim (ℕ-discrete n i) [ yes q ↦ rw q (g (rw q at h)) | no q ↦ t .closed n (omega arith) h ];
     }
 
-    marks : (p l r : ℕ) → linkAt s i ≡ join p l r → Trimming i (set (set m l 1) r 1)
+    marks : (p l r : ℕ) → linkAt s i ≡ join p l r → Trimming i (keepParents (join p l r) m)
+    unfolding keepParents
     marks p l r a =
         let b : (l < i) × (r < i) = rw a at (earlier i) in
         record {
-          long = length-set (set m l 1) r 1 ∙ length-set m l 1 ∙ t .long;
-          start = mark-keeps (set m l 1) r from (mark-keeps m l from (t .start));
+          long = length-set (set m l 1) _ 1 ∙ length-set m l 1 ∙ t .long;
+          start = mark-keeps (set m l 1) _ from (mark-keeps m l from (t .start));
           closed = λ n o h. elim (ℕ-discrete n i) [
             | yes q ↦ rw (q, a) (
-              mark-keeps (set m l 1) r l (mark-here m l (rw (t .long) (omega (arith, b)))),
+              mark-keeps (set m l 1) _ l (mark-here m l (rw (t .long) (omega (arith, b)))),
               mark-here (set m l 1) r (rw (length-set m l 1, t .long) (omega (arith, b))),
             )
             | no q ↦
