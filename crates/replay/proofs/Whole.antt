@@ -10,8 +10,8 @@ use Rattle.sheet.specs.Editions.{narrow, recordBytes, replayRecords}
 use Rattle.sheet.specs.Checks.{checkLengths}
 use Rattle.tally.specs.Tally.{Tally, nothing}
 use Rattle.replay_spec.specs.Slots.{Slot as RowSlot, empty, Place, cleared}
-use Rattle.replay_spec.specs.Step.{state, passes}
-use Rattle.replay_spec.specs.Replay.{Answer, run, start, outcome, byLengths, replay}
+use Rattle.replay_spec.specs.Step.{State, state, passes}
+use Rattle.replay_spec.specs.Replay.{Answer, Ran, ran, ranThrough, start, outcome, byLengths, replay}
 use Rattle.replay_slots.specs.declared.Slot.{Slot}
 use Rattle.replay_slots.specs.Said.{rowOf}
 use Rattle.replay_answer.specs.Answers.{ended}
@@ -41,10 +41,10 @@ module _ (sheet rules : List ℕ) where
   comes-refused row (Refused why) e fails a u p so = rw (← e, so)
 
   -- the row is cleared, run through, and cleared again
-  pub comes-fine : (ys zs₁ zs₂ zs₃ : List Slot) (a : Answer) → passes verdict ≡ true → rowOf zs₁ ≡ cleared (rowOf ys)
-      → (a ≡ run narrow rules sheet (length sheet / recordBytes narrow) 0 (state nothing (rowOf zs₁))) × (length zs₂ ≡ length zs₁) → rowOf zs₃ ≡ cleared (rowOf zs₂)
+  pub comes-fine : (ys zs₁ zs₂ zs₃ : List Slot) (a : Answer) (s : State) → passes verdict ≡ true → rowOf zs₁ ≡ cleared (rowOf ys)
+      → ran a s ≡ ranThrough narrow rules sheet (length sheet / recordBytes narrow) 0 (state nothing (rowOf zs₁)) → length zs₂ ≡ length zs₁ → rowOf zs₃ ≡ cleared (rowOf zs₂)
       → outcome a (rowOf zs₃) ≡ replay narrow sheet rules (rowOf ys)
   unfolding replay byLengths start
-  comes-fine ys zs₁ zs₂ zs₃ a pass e₁ e₂ e₃ =
-      let last : rowOf zs₃ ≡ cleared (rowOf ys) = e₃ ∙ cleared-same ys zs₂ (e₂ .1 ∙ cleared-length ys zs₁ e₁) in
-      rw (fine-is verdict pass, e₂ .0, e₁, last)
+  comes-fine ys zs₁ zs₂ zs₃ a s pass e₁ e₂ same e₃ =
+      let last : rowOf zs₃ ≡ cleared (rowOf ys) = e₃ ∙ cleared-same ys zs₂ (same ∙ cleared-length ys zs₁ e₁) in
+      rw (fine-is verdict pass, ap (λ (r : Ran). r .answer) e₂, e₁, last)

@@ -21,9 +21,9 @@ pub fn replay(sheet: &[u8], rules: &[u8], slots: &mut [Slot]) -> replay_answer::
     );
     if replay_answer::passes(verdict) {
         replay_row::clear(slots);
-        let answer = run::run(sheet, rules, slots);
+        let ran = run::run(sheet, rules, slots);
         replay_row::clear(slots);
-        return answer;
+        return ran.answer;
     }
     replay_answer::end(
         verdict,

@@ -1,4 +1,5 @@
 pub mod Slots
+pub mod Stopped
 pub mod Steps
 pub mod Runs
 pub mod Mirrors

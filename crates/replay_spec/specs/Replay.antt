@@ -40,6 +40,23 @@ run e rules sheet zero k s = ending k s
 run e rules sheet (suc m) k s =
     elim (turn e rules (recordAt e sheet k) s) [ goes t ↦ run e rules sheet m (suc k) t | stops why ↦ refused (numberOf why) k ]
 
+-- where they stop: "a refused record changes neither tally nor slots"
+unfoldable pub stopped : Edition → List ℕ → List ℕ → ℕ → ℕ → State → State
+stopped e rules sheet zero k s = s
+stopped e rules sheet (suc m) k s =
+    elim (turn e rules (recordAt e sheet k) s) [ goes t ↦ stopped e rules sheet m (suc k) t | stops why ↦ s ]
+
+-- what they come to: the answer, and the tally and the slots where they stop
+pub record Ran : Type 0 where
+  pub answer : Answer
+  pub state : State
+
+abbrev pub ran : Answer → State → Ran
+ran a s = record { answer = a; state = s }
+
+abbrev pub ranThrough : Edition → List ℕ → List ℕ → ℕ → ℕ → State → Ran
+ranThrough e rules sheet m k s = ran (run e rules sheet m k s) (stopped e rules sheet m k s)
+
 unfoldable pub start : List Slot → State
 start slots = state nothing (cleared slots)
 

@@ -1,5 +1,5 @@
 -- How far a run has come: what the loop over the records keeps, why a record that is taken keeps it, and what it comes to where one is not, or none is left.
-use mathlib.Core.Path.{_≡_, refl, sym, ap, _∙_}
+use mathlib.Core.Path.{_≡_, refl, sym, ap, ap₂, _∙_}
 use mathlib.Core.Bool.{true, false}
 use mathlib.Core.List.{List}
 use Prim.Native.Nat.{ℕ, suc, _+_, _-_, _*_, _/_, _≤_, _<_, _^_}
@@ -16,7 +16,8 @@ use Rattle.sheet.proofs.Fine.{Lengths, lengths-fine}
 use Rattle.tally.specs.Tally.{Tally, nothing}
 use Rattle.replay_spec.specs.Slots.{Slot, Place, look, lastOf}
 use Rattle.replay_spec.specs.Step.{State, state, turn, Judged, judged, byTurn, passes, fits}
-use Rattle.replay_spec.specs.Replay.{run, ending}
+use Rattle.replay_spec.specs.Replay.{Answer, run, ending, stopped, ran, ranThrough}
+use Rattle.replay_spec.proofs.Stopped.{stopped-goes-on, stopped-refused}
 use Rattle.replay_spec.proofs.Steps.{Within, record-fits, turn-goes-on, turn-refuses}
 use Rattle.replay_answer.specs.Answers.{ended}
 use Rattle.replay_answer.proofs.Ending.{ends-in}
@@ -24,7 +25,7 @@ use Rattle.replay_answer.proofs.Ending.{ends-in}
 -- after k records the tally is within, and the run goes on from the state then
 pub record Goes (rules sheet : List ℕ) (s₀ : State) (k : ℕ) (s : State) : Type 0 where
   pub within : Within k (s .tally)
-  pub left : (m : ℕ) → k + m ≡ length sheet / recordBytes narrow → run narrow rules sheet (length sheet / recordBytes narrow) 0 s₀ ≡ run narrow rules sheet m k s
+  pub left : (m : ℕ) → k + m ≡ length sheet / recordBytes narrow → ranThrough narrow rules sheet (length sheet / recordBytes narrow) 0 s₀ ≡ ranThrough narrow rules sheet m k s
 
 pub goes-none : (rules sheet : List ℕ) (slots : List Slot) (t : Tally) → t ≡ nothing → Goes rules sheet (state nothing slots) 0 (state t slots)
 goes-none rules sheet slots t q =
@@ -65,9 +66,9 @@ passed-fine (Refused why) h = cc
 module _ (rules sheet : List ℕ) (s₀ : State) (k : ℕ) (s : State) (g : Goes rules sheet s₀ k s) where
   -- no record is left
   pub goes-all : (n : ℕ) → n ≡ length sheet / recordBytes narrow → k ≡ n
-      → ended Fine n (s .tally) (look (lastOf (s .tally .next)) (s .slots)) ≡ run narrow rules sheet (length sheet / recordBytes narrow) 0 s₀
-  unfolding run
-  goes-all n q e = ends-in n s ∙ sym (g .left 0 (omega arith) ∙ ap (λ (i : ℕ). ending i s) e)
+      → ran (ended Fine n (s .tally) (look (lastOf (s .tally .next)) (s .slots))) s ≡ ranThrough narrow rules sheet (length sheet / recordBytes narrow) 0 s₀
+  unfolding run stopped
+  goes-all n q e = ap (λ (a : Answer). ran a s) (ends-in n s) ∙ sym (g .left 0 (omega arith) ∙ ap (λ (i : ℕ). ran (ending i s) s) e)
 
   module _ (h : k < length sheet / recordBytes narrow) (fine : checkLengths narrow (replayRecords narrow) (length sheet) (length rules) ≡ Fine) where
     lengths : Lengths narrow (replayRecords narrow) (length sheet) (length rules) (length sheet / recordBytes narrow)
@@ -92,17 +93,20 @@ module _ (rules sheet : List ℕ) (s₀ : State) (k : ℕ) (s : State) (g : Goes
           let on = turn-goes-on narrow sheet rules (length sheet / recordBytes narrow) lengths k h s (g .within) in
           let e : t ≡ byTurn s (turn narrow rules (recordAt narrow sheet k) s) .state = ap (λ (y : Judged). y .state) is in
           let w = says Fine (passed-fine v q) in
-          rw (e, add-one) (record { within = on 0 w .1; left = λ m o. g .left (suc m) (omega arith) ∙ on m w .0 })
+          rw (e, add-one)
+          (record { within = on 0 w .1; left = λ m o. g .left (suc m) (omega arith) ∙ ap₂ ran (on m w .0) (stopped-goes-on narrow rules sheet m k s w) })
 
-      -- refused: that is the run's answer
-      pub goes-no-more : passes v ≡ false → (u : Tally) (p : Place) → ended v k u p ≡ run narrow rules sheet (length sheet / recordBytes narrow) 0 s₀
+      -- refused: that is the run's answer, and the state is as it was
+      pub goes-no-more : passes v ≡ false → (u : Tally) (p : Place) → ran (ended v k u p) t ≡ ranThrough narrow rules sheet (length sheet / recordBytes narrow) 0 s₀
       unfolding passes ended
       goes-no-more q u p = by-verdict v refl q
         where
-          by-verdict : (w : Verdict) → v ≡ w → passes w ≡ false → ended w k u p ≡ run narrow rules sheet (length sheet / recordBytes narrow) 0 s₀
+          by-verdict : (w : Verdict) → v ≡ w → passes w ≡ false → ran (ended w k u p) t ≡ ranThrough narrow rules sheet (length sheet / recordBytes narrow) 0 s₀
           by-verdict Fine e z = cc
           by-verdict (Refused why) e z =
               let m = length sheet / recordBytes narrow - suc k in
+              let (stays, same) = stopped-refused narrow rules sheet m k s why (says (Refused why) e) in
               sym
               (g .left (suc m) (omega arith)
-              ∙ turn-refuses narrow sheet rules (length sheet / recordBytes narrow) lengths k h s (g .within) m why (says (Refused why) e))
+              ∙ ap₂ ran (turn-refuses narrow sheet rules (length sheet / recordBytes narrow) lengths k h s (g .within) m why (says (Refused why) e))
+              (stays ∙ sym (ap (λ (y : Judged). y .state) is ∙ same)))

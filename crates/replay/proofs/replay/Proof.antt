@@ -41,6 +41,7 @@ use lib.Dec.{lit<}
 use lib.Ieee.Bits.{is-true, is-false}
 use Rattle.lending.proofs.Calls.{call-plain}
 use Rattle.lending.proofs.Facts.{beside}
+use Rattle.lending.proofs.Fields.{load-field}
 use Rattle.lending.proofs.Leaving.{leaves}
 use Rattle.lending.proofs.Lends.{passed, lent-for, call-with-row, Tokens, Opened, Closed, opens-with-row, ends-with-row}
 use Rattle.lending.proofs.Locals.{envOf, localsOf, tyAt, then}
@@ -57,7 +58,7 @@ use Rattle.sheet_checks.proofs.check_lengths.Symbol.{name as #lengths}
 use Rattle.sheet_checks.proofs.check_lengths.Met as lengths-thm
 use Rattle.tally.specs.Tally.{nothing}
 use Rattle.replay_spec.specs.Step.{state, passes}
-use Rattle.replay_spec.specs.Replay.{outcome, replay, run as runs-to}
+use Rattle.replay_spec.specs.Replay.{outcome, replay, ran, ranThrough}
 use Rattle.replay_slots.specs.declared.Slot.{Slot}
 use Rattle.replay_slots.specs.Said.{rowOf}
 use Rattle.replay_slots.proofs.Slot as T
@@ -93,6 +94,9 @@ use Rattle.replay_answer.proofs.passes.Met as passes-thm
 use Rattle.replay_row.proofs.clear.Symbol as clear-def
 use Rattle.replay_row.proofs.clear.Symbol.{name as #clear}
 use Rattle.replay_row.proofs.clear.Met as clear-thm
+use Rattle.replay.proofs.Stopping.{ran-val}
+use Rattle.replay.proofs.run.Ran as Q
+use Rattle.replay.proofs.run.Ran.Laws as Q′
 use Rattle.replay.proofs.run.run as run′
 use Rattle.replay.proofs.run.run.Symbol as run-def
 use Rattle.replay.proofs.run.run.Symbol.{name as #run}
@@ -177,19 +181,19 @@ module _ {M : Type 1} (𝓤 : URA M) (H : Heap 𝓤) (A : Atoms 𝓤) (W : Given
           assigns ! (addr ! (from ! (fld ! refl (hop ! (look-in ! 38 (sub ! 0 refl (whole !))) (stop !))))) (from ! (stop !)) (init ! 20 refl (tt, tt)) $
           assigns ! (agg ! (and-then ! (load ! (from ! (stop !)) (look ! 20 refl)) (and-then ! (load ! (from ! (fld ! refl (stop !))) (look-in ! 38 (sub ! 1 refl (whole !)))) (no-more !)))) (from ! (stop !)) (init ! 18 refl (tt, (tt, (record { fits = room-at T.the-row (cleared-length (slots .now) zs₁ e₁) room .0 }, tt)))) $
           call-with-row ! fm (Run 𝓤 H A at-mem run) (known .runs-it) T.the-row sheet rules zs₁ (slots .b) (slots .o) (room-at T.the-row (cleared-length (slots .now) zs₁ e₁) room) (λ ν δ. (passed sheet rules (lent-for T.the-row zs₁ (slots .b) (slots .o) ν δ) tt tt, tt)) ftrue (id⊢ 𝓤 _) (λ ν δ. beside 𝓤 (fine-is verdict pass))
-          B.the-row answer-val (EL.tells B.the-type B′.the-laws) {X = Unit {0} × (Unit {0} × (List Slot × Unit {0}))} (λ ws. ws .1 .1 .0) ftrue (λ r zs. (said r ≡ runs-to narrow (rules .now) (sheet .now) (length (sheet .now) / recordBytes narrow) 0 (state nothing (rowOf zs₁))) × (length zs ≡ length zs₁)) (λ ν δ w. id⊢ 𝓤 _)
-          (λ ν δ. (and-then ! (load ! (from ! (stop !)) (look ! 39 refl)) (and-then ! (load ! (from ! (stop !)) (look ! 37 refl)) (and-then ! (load ! (from ! (stop !)) (look ! 15 refl)) (no-more !))))) (λ r zs₂ _ e₂ gr.
+          Q.the-row ran-val (LL.tells Q.the-type Q′.the-laws) {X = Unit {0} × (Unit {0} × (List Slot × Unit {0}))} (λ ws. ws .1 .1 .0) ftrue (λ r zs. ran (said (r .answer)) (state (tallyOf (r .tally)) (rowOf zs)) ≡ ranThrough narrow (rules .now) (sheet .now) (length (sheet .now) / recordBytes narrow) 0 (state nothing (rowOf zs₁))) (λ ν δ w. id⊢ 𝓤 _)
+          (λ ν δ. (and-then ! (load ! (from ! (stop !)) (look ! 39 refl)) (and-then ! (load ! (from ! (stop !)) (look ! 37 refl)) (and-then ! (load ! (from ! (stop !)) (look ! 15 refl)) (no-more !))))) (λ r zs₂ same e₂ gr.
           -- [the row 0; sheet's token 1; rules's 2; its open borrow 3; obs 4; auth 5; locals from 6]
-          land ! (from ! (stop !)) (init ! 32 refl (EL.lawful B.the-type B′.the-laws 𝓤 H A W tt .typed r _ gr .0)) $ forget ! 18 refl $ forget ! 16 refl $
-          rewrite ! 36 (λ (c : ℕ). ‵ (fat fullShare (tyAt (code.function .locals) 3) l₃ 0 (sliceVal (slots .b, slots .o) c))) (sym (e₂ .1)) refl $
+          land ! (from ! (stop !)) (init ! 32 refl (LL.lawful Q.the-type Q′.the-laws 𝓤 H A W .typed r _ gr .0)) $ forget ! 18 refl $ forget ! 16 refl $
+          rewrite ! 36 (λ (c : ℕ). ‵ (fat fullShare (tyAt (code.function .locals) 3) l₃ 0 (sliceVal (slots .b, slots .o) c))) (sym same) refl $
           assigns ! (addr ! (from ! (fld ! refl (hop ! (look-in ! 36 (sub ! 0 refl (whole !))) (stop !))))) (from ! (stop !)) (init ! 14 refl (tt, tt)) $
-          assigns ! (agg ! (and-then ! (load ! (from ! (stop !)) (look ! 14 refl)) (and-then ! (load ! (from ! (fld ! refl (stop !))) (look-in ! 36 (sub ! 1 refl (whole !)))) (no-more !)))) (from ! (stop !)) (init ! 12 refl (tt, (tt, (record { fits = room-at T.the-row (e₂ .1 ∙ cleared-length (slots .now) zs₁ e₁) room .0 }, tt)))) $
-          call-clear ! at-mem run fm (known .clear) zs₂ (slots .b) (slots .o) (room-at T.the-row (e₂ .1 ∙ cleared-length (slots .now) zs₁ e₁) room) (λ ν δ. (and-then ! (load ! (from ! (stop !)) (look ! 13 refl)) (no-more !))) (λ zs₃ e₃.
+          assigns ! (agg ! (and-then ! (load ! (from ! (stop !)) (look ! 14 refl)) (and-then ! (load ! (from ! (fld ! refl (stop !))) (look-in ! 36 (sub ! 1 refl (whole !)))) (no-more !)))) (from ! (stop !)) (init ! 12 refl (tt, (tt, (record { fits = room-at T.the-row (same ∙ cleared-length (slots .now) zs₁ e₁) room .0 }, tt)))) $
+          call-clear ! at-mem run fm (known .clear) zs₂ (slots .b) (slots .o) (room-at T.the-row (same ∙ cleared-length (slots .now) zs₁ e₁) room) (λ ν δ. (and-then ! (load ! (from ! (stop !)) (look ! 13 refl)) (no-more !))) (λ zs₃ e₃.
           land ! (from ! (stop !)) (store ! 24 refl (tt, tt)) $
-          assigns ! (of-opd ! (load ! (from ! (stop !)) (look ! 32 refl))) (from ! (stop !)) (init ! 42 refl (EL.lawful B.the-type B′.the-laws 𝓤 H A W tt .typed r _ gr .0)) $
-          move ! (0 ∷ 3 ∷ 4 ∷ 5 ∷ []) $ closes-slice ! tt T.the-row (slots .now) zs₃ (cleared-length zs₂ zs₃ e₃ ∙ e₂ .1 ∙ cleared-length (slots .now) zs₁ e₁) (slots .b) (slots .o) $
+          assigns ! (of-opd ! (load-field ! 32 {v = answer-val (r .answer)} refl refl refl)) (from ! (stop !)) (init ! 42 refl (EL.lawful B.the-type B′.the-laws 𝓤 H A W tt .typed (r .answer) _ (LL.owed Q.the-type Q′.the-laws r _ gr .0) .0)) $
+          move ! (0 ∷ 3 ∷ 4 ∷ 5 ∷ []) $ closes-slice ! tt T.the-row (slots .now) zs₃ (cleared-length zs₂ zs₃ e₃ ∙ same ∙ cleared-length (slots .now) zs₁ e₁) (slots .b) (slots .o) $
           -- [obs; the borrow; the token; sheet's token 3; rules's 4; locals from 5]
-          returns-within ! Post refl (look ! 41 refl) $ leaves ! 5 (code.function .locals) bs (some _ ∷ some _ ∷ some _ ∷ some _ ∷ none ∷ some _ ∷ none ∷ none ∷ none ∷ some _ ∷ none ∷ none ∷ none ∷ none ∷ some _ ∷ some _ ∷ []) refl $ by ! (exits zs₃ r (cleared-length zs₂ zs₃ e₃ ∙ e₂ .1 ∙ cleared-length (slots .now) zs₁ e₁) (comes-fine (sheet .now) (rules .now) (slots .now) zs₁ zs₂ zs₃ (said r) pass e₁ e₂ e₃) gr))))
+          returns-within ! Post refl (look ! 41 refl) $ leaves ! 5 (code.function .locals) bs (some _ ∷ some _ ∷ some _ ∷ some _ ∷ none ∷ some _ ∷ none ∷ none ∷ none ∷ some _ ∷ none ∷ none ∷ none ∷ none ∷ some _ ∷ some _ ∷ []) refl $ by ! (exits zs₃ (r .answer) (cleared-length zs₂ zs₃ e₃ ∙ same ∙ cleared-length (slots .now) zs₁ e₁) (comes-fine (sheet .now) (rules .now) (slots .now) zs₁ zs₂ zs₃ (said (r .answer)) (state (tallyOf (r .tally)) (rowOf zs₂)) pass e₁ e₂ same e₃) (LL.owed Q.the-type Q′.the-laws r _ gr .0)))))
 
     walk : ent 𝓤 (onEntry 𝓤 H A f.signature (entry .0 .0) (entry .0 .1) (entry .0 .3) (entry .0 .4)) (WpFn 𝓤 H C Λ code.function (lent-val sheet ∷ lent-val rules ∷ lent-val slots ∷ []) Post)
     walk =

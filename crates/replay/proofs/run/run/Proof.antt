@@ -69,7 +69,7 @@ use Rattle.tally.proofs.nothing.Symbol.{name as #nothing}
 use Rattle.tally.proofs.nothing.Met as nothing-thm
 use Rattle.replay_spec.specs.Slots.{Sought as RowSought, look as look-for}
 use Rattle.replay_spec.specs.Step.{State, state}
-use Rattle.replay_spec.specs.Replay.{run as runs-to}
+use Rattle.replay_spec.specs.Replay.{Answer, ran, ranThrough}
 use Rattle.replay_slots.specs.declared.Slot.{Slot}
 use Rattle.replay_slots.specs.Said.{rowOf, placeOf}
 use Rattle.replay_slots.proofs.Slot as T
@@ -104,6 +104,10 @@ use Rattle.replay_step.proofs.take.Symbol as take-def
 use Rattle.replay_step.proofs.take.Symbol.{name as #take}
 use Rattle.replay_step.proofs.take.Met as take-thm
 use Rattle.replay.proofs.Answers.{Nothing, Nowhere, Passes, Last-sought, End, call-nothing, call-nowhere, call-passes, call-last, call-end}
+use Rattle.replay.specs.declared.run.Ran.{Ran}
+use Rattle.replay.proofs.run.Ran as Q
+use Rattle.replay.proofs.run.Ran.Laws as Q′
+use Rattle.replay.proofs.Stopping.{ran-val, stop-at, stop-is}
 use Rattle.replay.proofs.run.run.Key.{name as #key}
 use Rattle.replay.proofs.run.run as f
 use Rattle.replay.proofs.run.run.Statement as stated
@@ -142,11 +146,15 @@ module _ {M : Type 1} (𝓤 : URA M) (H : Heap 𝓤) (A : Atoms 𝓤) (W : Given
   abbrev Post : Val → SProp 𝓤
   Post = walkOf 𝓤 H A f.ended stayed (f.clauses 𝓤 H A at-mem run) .post entry
 
-  exits : (zs : List Slot) (r : ReplayAnswer) → length zs ≡ length (slots .now) → said r ≡ runs-to narrow (rules .now) (sheet .now) n 0 s₀ → Is B.the-row r (answer-val r ∷ []) → ent 𝓤 (⋆ 𝓤 H A (Closed 𝓤 sheet rules slots zs [])) (Post (answer-val r))
+  -- what a run that stops with this row is to come to
+  abbrev Comes : Ran → List Slot → Type 0
+  Comes r zs = ran (said (r .answer)) (state (tallyOf (r .tally)) (rowOf zs)) ≡ ranThrough narrow (rules .now) (sheet .now) n 0 s₀
+
+  exits : (zs : List Slot) (r : Ran) → length zs ≡ length (slots .now) → Comes r zs → Is Q.the-row r (ran-val r ∷ []) → ent 𝓤 (⋆ 𝓤 H A (Closed 𝓤 sheet rules slots zs [])) (Post (ran-val r))
   exits zs r same e gr =
       qed W (Closed 𝓤 sheet rules slots zs []) ∵
-      suffices ! _ (ends-at 𝓤 H A f.ended stayed (f.clauses 𝓤 H A at-mem run) W entry (answer-val r) r (tt, (tt, (zs, tt))) (tt, (tt, (same, tt)))) $
-      says ! (e, same) $ by ! (ends-with-row 𝓤 H A W sheet rules slots zs same room ftrue (id⊢ 𝓤 _) (EL.makes B.the-type B′.the-plain 𝓤 H A r (answer-val r ∷ []) gr))
+      suffices ! _ (ends-at 𝓤 H A f.ended stayed (f.clauses 𝓤 H A at-mem run) W entry (ran-val r) r (tt, (tt, (zs, tt))) (tt, (tt, (same, tt)))) $
+      says ! e $ by ! (ends-with-row 𝓤 H A W sheet rules slots zs same room ftrue (id⊢ 𝓤 _) (LL.makes Q.the-type Q′.the-plain 𝓤 H A r (ran-val r ∷ []) gr))
 
   -- how far the loop has come
   record Upto : Type 0 where
@@ -163,9 +171,9 @@ module _ {M : Type 1} (𝓤 : URA M) (H : Heap 𝓤) (A : Atoms 𝓤) (W : Given
   Nearer-wf : WellFounded Nearer
   Nearer-wf = InvImage·wf (λ (i : Upto). n - i .k) (Nat·lt-wfRel .wf)
 
-  module _ (𝓣 : Tables 𝓤 H) (known : Known 𝓤 H A at-mem run (𝓣 .C)) (l₀ l₁ l₂ l₃ l₄ l₅ l₆ l₇ l₈ l₉ l₁₀ l₁₁ l₁₂ l₁₃ l₁₄ l₁₅ l₁₆ l₁₇ l₁₈ l₁₉ l₂₀ l₂₁ l₂₂ l₂₃ l₂₄ l₂₅ l₂₆ l₂₇ l₂₈ l₂₉ : ℕ) where
+  module _ (𝓣 : Tables 𝓤 H) (known : Known 𝓤 H A at-mem run (𝓣 .C)) (l₀ l₁ l₂ l₃ l₄ l₅ l₆ l₇ l₈ l₉ l₁₀ l₁₁ l₁₂ l₁₃ l₁₄ l₁₅ l₁₆ l₁₇ l₁₈ l₁₉ l₂₀ l₂₁ l₂₂ l₂₃ l₂₄ l₂₅ l₂₆ l₂₇ l₂₈ l₂₉ l₃₀ l₃₁ : ℕ) where
     abbrev bs : List ℕ
-    bs = l₀ ∷ l₁ ∷ l₂ ∷ l₃ ∷ l₄ ∷ l₅ ∷ l₆ ∷ l₇ ∷ l₈ ∷ l₉ ∷ l₁₀ ∷ l₁₁ ∷ l₁₂ ∷ l₁₃ ∷ l₁₄ ∷ l₁₅ ∷ l₁₆ ∷ l₁₇ ∷ l₁₈ ∷ l₁₉ ∷ l₂₀ ∷ l₂₁ ∷ l₂₂ ∷ l₂₃ ∷ l₂₄ ∷ l₂₅ ∷ l₂₆ ∷ l₂₇ ∷ l₂₈ ∷ l₂₉ ∷ []
+    bs = l₀ ∷ l₁ ∷ l₂ ∷ l₃ ∷ l₄ ∷ l₅ ∷ l₆ ∷ l₇ ∷ l₈ ∷ l₉ ∷ l₁₀ ∷ l₁₁ ∷ l₁₂ ∷ l₁₃ ∷ l₁₄ ∷ l₁₅ ∷ l₁₆ ∷ l₁₇ ∷ l₁₈ ∷ l₁₉ ∷ l₂₀ ∷ l₂₁ ∷ l₂₂ ∷ l₂₃ ∷ l₂₄ ∷ l₂₅ ∷ l₂₆ ∷ l₂₇ ∷ l₂₈ ∷ l₂₉ ∷ l₃₀ ∷ l₃₁ ∷ []
 
     abbrev En : Env 𝓤 H
     En = envOf 𝓤 H (code.function .locals) bs
@@ -176,12 +184,12 @@ module _ {M : Type 1} (𝓤 : URA M) (H : Heap 𝓤) (A : Atoms 𝓤) (W : Given
         ∷ Opened 𝓤 sheet rules slots (localsOf 𝓤 (past 6 (code.function .locals)) (past 6 bs) (some (vint w64 (i .k)) ∷ []) (‵ (fdies (tyAt (code.function .locals) 5) l₅) ∷ localsOf 𝓤 (code.function .locals) (l₀ ∷ l₁ ∷ l₂ ∷ l₃ ∷ l₄ ∷ []) (none ∷ some (lent-val sheet) ∷ some (lent-val rules) ∷ some (sliceVal (slots .b, slots .o) (length (i .zs))) ∷ some (vint w64 (length (sheet .now) / recordBytes narrow)) ∷ []) []))
 
     -- the end: the locals are freed
-    lets-go : (zs : List Slot) (t : Tally) (c k : ℕ) (r : ReplayAnswer) → length zs ≡ length (slots .now) → said r ≡ runs-to narrow (rules .now) (sheet .now) n 0 s₀ → Is B.the-row r (answer-val r ∷ [])
+    lets-go : (zs : List Slot) (t : Tally) (c k : ℕ) (r : Ran) → length zs ≡ length (slots .now) → Comes r zs → Is Q.the-row r (ran-val r ∷ [])
         → Sq W (‵ (fat fullShare (tyAt (code.function .locals) 5) l₅ 0 (tally-val t)) ∷ Closed 𝓤 sheet rules slots zs
-        (localsOf 𝓤 (past 6 (code.function .locals)) (past 6 bs) (some (vint w64 k) ∷ []) (‵ (fdies (tyAt (code.function .locals) 5) l₅) ∷ localsOf 𝓤 (code.function .locals) (l₀ ∷ l₁ ∷ l₂ ∷ l₃ ∷ l₄ ∷ []) (some (answer-val r) ∷ some (lent-val sheet) ∷ some (lent-val rules) ∷ some (sliceVal (slots .b, slots .o) c) ∷ some (vint w64 (length (sheet .now) / recordBytes narrow)) ∷ []) [])))
-        (frees En (prop (Post (answer-val r))))
+        (localsOf 𝓤 (past 6 (code.function .locals)) (past 6 bs) (some (vint w64 k) ∷ []) (‵ (fdies (tyAt (code.function .locals) 5) l₅) ∷ localsOf 𝓤 (code.function .locals) (l₀ ∷ l₁ ∷ l₂ ∷ l₃ ∷ l₄ ∷ []) (some (ran-val r) ∷ some (lent-val sheet) ∷ some (lent-val rules) ∷ some (sliceVal (slots .b, slots .o) c) ∷ some (vint w64 (length (sheet .now) / recordBytes narrow)) ∷ []) [])))
+        (frees En (prop (Post (ran-val r))))
     lets-go zs t c k r same e gr =
-        lays ! 53 $ leaves ! 5 (code.function .locals) bs (some _ ∷ some _ ∷ some _ ∷ some _ ∷ some _ ∷ some _ ∷ some _ ∷ []) refl $ by ! (exits zs r same e gr)
+        lays ! 57 $ leaves ! 5 (code.function .locals) bs (some _ ∷ some _ ∷ some _ ∷ some _ ∷ some _ ∷ some _ ∷ some _ ∷ []) refl $ by ! (exits zs r same e gr)
 
     -- after the loop: the last node is looked for
     ends : (i : Upto) → n ≤ i .k → Is Y.the-row (i .t) (tally-val (i .t) ∷ [])
@@ -189,24 +197,26 @@ module _ {M : Type 1} (𝓤 : URA M) (H : Heap 𝓤) (A : Atoms 𝓤) (W : Given
         ∷ Opened 𝓤 sheet rules slots (localsOf 𝓤 (past 6 (code.function .locals)) (past 6 bs) (some (vint w64 (i .k)) ∷ []) (‵ (fdies (tyAt (code.function .locals) 5) l₅) ∷ localsOf 𝓤 (code.function .locals) (l₀ ∷ l₁ ∷ l₂ ∷ l₃ ∷ l₄ ∷ []) (none ∷ some (lent-val sheet) ∷ some (lent-val rules) ∷ some (sliceVal (slots .b, slots .o) (length (i .zs))) ∷ some (vint w64 (length (sheet .now) / recordBytes narrow)) ∷ []) [])))
         (runs (𝓣 .C) (𝓣 .Λ) En m.t-7 (atRet En Post))
     ends i over gt =
-        assigns ! (addr ! (from ! (fld ! refl (hop ! (look-in ! 60 (sub ! 0 refl (whole !))) (stop !))))) (from ! (stop !)) (init ! 17 refl (tt, tt)) $
-        assigns ! (agg ! (and-then ! (load ! (from ! (stop !)) (look ! 17 refl)) (and-then ! (load ! (from ! (fld ! refl (stop !))) (look-in ! 60 (sub ! 1 refl (whole !)))) (no-more !)))) (from ! (stop !)) (init ! 15 refl (tt, (tt, (record { fits = room-at T.the-row (i .same) room .0 }, tt)))) $
+        assigns ! (addr ! (from ! (fld ! refl (hop ! (look-in ! 64 (sub ! 0 refl (whole !))) (stop !))))) (from ! (stop !)) (init ! 17 refl (tt, tt)) $
+        assigns ! (agg ! (and-then ! (load ! (from ! (stop !)) (look ! 17 refl)) (and-then ! (load ! (from ! (fld ! refl (stop !))) (look-in ! 64 (sub ! 1 refl (whole !)))) (no-more !)))) (from ! (stop !)) (init ! 15 refl (tt, (tt, (record { fits = room-at T.the-row (i .same) room .0 }, tt)))) $
         assigns ! (of-opd ! (load ! (from ! (stop !)) (look ! 1 refl))) (from ! (stop !)) (init ! 43 refl (LL.lawful Y.the-type Y′.the-laws 𝓤 H A W .typed (i .t) _ gt .0)) $
         call-last ! at-mem run fm (known .last) (i .t) gt (and-then ! (load ! (from ! (stop !)) (look ! 44 refl)) (no-more !)) (λ x e-x gx.
         land ! (from ! (stop !)) (init ! 13 refl (EL.lawful K.the-type K′.the-laws 𝓤 H A W tt .typed x _ gx .0)) $
         call-find ! at-mem run fm (known .find) fullShare (i .zs) (slots .b) (slots .o) x (room-at T.the-row (i .same) room) gx (λ ν δ. (and-then ! (load ! (from ! (stop !)) (look ! 16 refl)) (and-then ! (load ! (from ! (stop !)) (look ! 14 refl)) (no-more !)))) (λ w e-w gw.
-        land ! (from ! (stop !)) (init ! 47 refl (EL.lawful F.the-type F′.the-laws 𝓤 H A W tt .typed w _ gw .0)) $
+        land ! (from ! (stop !)) (init ! 49 refl (EL.lawful F.the-type F′.the-laws 𝓤 H A W tt .typed w _ gw .0)) $
         assigns ! (agg ! (and-then ! (lit ! tt) (no-more !))) (from ! (stop !)) (init ! 11 refl (EL.lawful J.the-type J′.the-laws 𝓤 H A W tt .typed Fine _ fine-is .0)) $
-        assigns ! (agg ! (and-then ! (load ! (from ! (stop !)) (look ! 58 refl)) (no-more !))) (from ! (stop !)) (init ! 9 refl (LL.lawful R.the-type R′.the-laws 𝓤 H A W .typed (number n) _ records-is .0)) $
+        assigns ! (agg ! (and-then ! (load ! (from ! (stop !)) (look ! 62 refl)) (no-more !))) (from ! (stop !)) (init ! 9 refl (LL.lawful R.the-type R′.the-laws 𝓤 H A W .typed (number n) _ records-is .0)) $
         assigns ! (of-opd ! (load ! (from ! (stop !)) (look ! 1 refl))) (from ! (stop !)) (store ! 43 refl (LL.lawful Y.the-type Y′.the-laws 𝓤 H A W .typed (i .t) _ gt .0)) $
-        call-end ! at-mem run fm (known .end) Fine fine-is (number n) records-is (i .t) gt w gw (and-then ! (load ! (from ! (stop !)) (look ! 12 refl)) (and-then ! (load ! (from ! (stop !)) (look ! 10 refl)) (and-then ! (load ! (from ! (stop !)) (look ! 44 refl)) (and-then ! (load ! (from ! (stop !)) (look ! 48 refl)) (no-more !))))) (λ r e-r gr.
-        land ! (from ! (stop !)) (init ! 66 refl (EL.lawful B.the-type B′.the-laws 𝓤 H A W tt .typed r _ gr .0)) $
-        forget ! 47 refl $ forget ! 43 refl $ forget ! 17 refl $ forget ! 15 refl $ forget ! 13 refl $ forget ! 11 refl $ forget ! 9 refl $
+        call-end ! at-mem run fm (known .end) Fine fine-is (number n) records-is (i .t) gt w gw (and-then ! (load ! (from ! (stop !)) (look ! 12 refl)) (and-then ! (load ! (from ! (stop !)) (look ! 10 refl)) (and-then ! (load ! (from ! (stop !)) (look ! 44 refl)) (and-then ! (load ! (from ! (stop !)) (look ! 50 refl)) (no-more !))))) (λ r e-r gr.
+        land ! (from ! (stop !)) (init ! 47 refl (EL.lawful B.the-type B′.the-laws 𝓤 H A W tt .typed r _ gr .0)) $
+        assigns ! (of-opd ! (load ! (from ! (stop !)) (look ! 1 refl))) (from ! (stop !)) (store ! 43 refl (LL.lawful Y.the-type Y′.the-laws 𝓤 H A W .typed (i .t) _ gt .0)) $
+        assigns ! (agg ! (and-then ! (load ! (from ! (stop !)) (look ! 47 refl)) (and-then ! (load ! (from ! (stop !)) (look ! 43 refl)) (no-more !)))) (from ! (stop !)) (init ! 70 refl (LL.lawful Q.the-type Q′.the-laws 𝓤 H A W .typed (stop-at r (i .t)) _ (stop-is r gr (i .t) gt) .0)) $
+        forget ! 49 refl $ forget ! 47 refl $ forget ! 43 refl $ forget ! 17 refl $ forget ! 15 refl $ forget ! 13 refl $ forget ! 11 refl $ forget ! 9 refl $
         move ! (0 ∷ 6 ∷ 7 ∷ 8 ∷ []) $ closes-slice ! tt T.the-row (slots .now) (i .zs) (i .same) (slots .b) (slots .o) $
         -- [obs 0; the borrow 1; the token 2; the tally's cell 3; sheet's token 4; rules's 5; what sheet owns; what rules owns; locals]
-        move ! (3 ∷ []) $ move ! (0 ∷ 1 ∷ 2 ∷ 3 ∷ 4 ∷ 5 ∷ []) $ move ! (6 ∷ []) $ drop ! $ move ! (6 ∷ []) $ drop ! $ returns ! (look ! 63 refl) $
-        lets-go (i .zs) (i .t) (length (i .zs)) (i .k) r (i .same)
-        (e-r ∙ ap (ended Fine n (tallyOf (i .t))) (e-w ∙ ap (λ (z : RowSought). look-for z (rowOf (i .zs))) e-x) ∙ goes-all (rules .now) (sheet .now) s₀ (i .k) (state (tallyOf (i .t)) (rowOf (i .zs))) (i .goes) n refl (le-antisymm (i .few) over)) gr)))
+        move ! (3 ∷ []) $ move ! (0 ∷ 1 ∷ 2 ∷ 3 ∷ 4 ∷ 5 ∷ []) $ move ! (6 ∷ []) $ drop ! $ move ! (6 ∷ []) $ drop ! $ returns ! (look ! 67 refl) $
+        lets-go (i .zs) (i .t) (length (i .zs)) (i .k) (stop-at r (i .t)) (i .same)
+        (ap (λ (a : Answer). ran a (state (tallyOf (i .t)) (rowOf (i .zs)))) (e-r ∙ ap (ended Fine n (tallyOf (i .t))) (e-w ∙ ap (λ (z : RowSought). look-for z (rowOf (i .zs))) e-x)) ∙ goes-all (rules .now) (sheet .now) s₀ (i .k) (state (tallyOf (i .t)) (rowOf (i .zs))) (i .goes) n refl (le-antisymm (i .few) over)) (stop-is r gr (i .t) gt))))
       where
         fm : FmC 𝓤 H (W .laws) (𝓣 .C)
         fm = fmOf 𝓤 H (W .laws) 𝓣
@@ -233,26 +243,28 @@ module _ {M : Type 1} (𝓤 : URA M) (H : Heap 𝓤) (A : Atoms 𝓤) (W : Given
           (runs (𝓣 .C) (𝓣 .Λ) En t₂ (anyQ (Turned i)))
       unfolding afterTurn partOf
       answers less v zs t same took gv =
-          call-passes ! at-mem run fm (known .passes) v gv (and-then ! (load ! (from ! (stop !)) (look ! 50 refl)) (no-more !)) (λ c e-c.
+          call-passes ! at-mem run fm (known .passes) v gv (and-then ! (load ! (from ! (stop !)) (look ! 54 refl)) (no-more !)) (λ c e-c.
           land ! (from ! (stop !)) (init ! 25 refl (tt, tt)) $
           branches ! (load ! (from ! (stop !)) (look ! 25 refl))
           -- taken: the next turn
-          (λ it. assigns-last ! (bin ! (load ! (from ! (stop !)) (look ! 55 refl)) (lit ! tt) (record { fits = more-fits })) (from ! (stop !)) (store ! 55 refl (tt, record { fits = more-fits })) $
-          rewrite ! 60 (λ (d : ℕ). ‵ (fat fullShare (tyAt (code.function .locals) 3) l₃ 0 (sliceVal (slots .b, slots .o) d))) (sym same) refl $ forget ! 49 refl $ forget ! 25 refl $
+          (λ it. assigns-last ! (bin ! (load ! (from ! (stop !)) (look ! 59 refl)) (lit ! tt) (record { fits = more-fits })) (from ! (stop !)) (store ! 59 refl (tt, record { fits = more-fits })) $
+          rewrite ! 64 (λ (d : ℕ). ‵ (fat fullShare (tyAt (code.function .locals) 3) l₃ 0 (sliceVal (slots .b, slots .o) d))) (sym same) refl $ forget ! 53 refl $ forget ! 25 refl $
           again ! Nearer At i (record { k = i .k + 1; zs = zs; t = t; few = add-one-le less; same = same ∙ i .same; goes = goes-on (rules .now) (sheet .now) s₀ (i .k) s (i .goes) less fine v (state (tallyOf t) (rowOf zs)) took (sym e-c ∙ is-true c it) }) (add-one-dec n (i .k) less))
           -- refused: the function returns
           (λ not-it. move ! (1 ∷ []) $ settled ! Y.the-row (tyAt (code.function .locals) 5) (λ v b. refl) tally-val (LL.tells Y.the-type Y′.the-laws) t l₅ (λ gt. move ! (1 ∷ []) $
-          assigns ! (agg ! (and-then ! (load ! (from ! (stop !)) (look ! 55 refl)) (no-more !))) (from ! (stop !)) (init ! 23 refl (LL.lawful R.the-type R′.the-laws 𝓤 H A W .typed (number (i .k)) _ number-ok .0)) $
+          assigns ! (agg ! (and-then ! (load ! (from ! (stop !)) (look ! 59 refl)) (no-more !))) (from ! (stop !)) (init ! 23 refl (LL.lawful R.the-type R′.the-laws 𝓤 H A W .typed (number (i .k)) _ number-ok .0)) $
           assigns ! (of-opd ! (load ! (from ! (stop !)) (look ! 1 refl))) (from ! (stop !)) (init ! 21 refl (LL.lawful Y.the-type Y′.the-laws 𝓤 H A W .typed t _ gt .0)) $
           call-nowhere ! at-mem run fm (known .nowhere) (no-more !) (λ p _ gp.
           land ! (from ! (stop !)) (init ! 19 refl (EL.lawful F.the-type F′.the-laws 𝓤 H A W tt .typed p _ gp .0)) $
-          call-end ! at-mem run fm (known .end) v gv (number (i .k)) number-ok t gt p gp (and-then ! (load ! (from ! (stop !)) (look ! 50 refl)) (and-then ! (load ! (from ! (stop !)) (look ! 24 refl)) (and-then ! (load ! (from ! (stop !)) (look ! 22 refl)) (and-then ! (load ! (from ! (stop !)) (look ! 20 refl)) (no-more !))))) (λ a e-a ga.
-          land ! (from ! (stop !)) (init ! 66 refl (EL.lawful B.the-type B′.the-laws 𝓤 H A W tt .typed a _ ga .0)) $ forget ! 49 refl $ forget ! 25 refl $ forget ! 23 refl $ forget ! 21 refl $ forget ! 19 refl $
+          call-end ! at-mem run fm (known .end) v gv (number (i .k)) number-ok t gt p gp (and-then ! (load ! (from ! (stop !)) (look ! 54 refl)) (and-then ! (load ! (from ! (stop !)) (look ! 24 refl)) (and-then ! (load ! (from ! (stop !)) (look ! 22 refl)) (and-then ! (load ! (from ! (stop !)) (look ! 20 refl)) (no-more !))))) (λ a e-a ga.
+          land ! (from ! (stop !)) (init ! 51 refl (EL.lawful B.the-type B′.the-laws 𝓤 H A W tt .typed a _ ga .0)) $
+          assigns ! (of-opd ! (load ! (from ! (stop !)) (look ! 1 refl))) (from ! (stop !)) (store ! 21 refl (LL.lawful Y.the-type Y′.the-laws 𝓤 H A W .typed t _ gt .0)) $
+          assigns ! (agg ! (and-then ! (load ! (from ! (stop !)) (look ! 51 refl)) (and-then ! (load ! (from ! (stop !)) (look ! 21 refl)) (no-more !)))) (from ! (stop !)) (init ! 70 refl (LL.lawful Q.the-type Q′.the-laws 𝓤 H A W .typed (stop-at a t) _ (stop-is a ga t gt) .0)) $ forget ! 53 refl $ forget ! 51 refl $ forget ! 25 refl $ forget ! 23 refl $ forget ! 21 refl $ forget ! 19 refl $
           move ! (0 ∷ 6 ∷ 7 ∷ 8 ∷ []) $ closes-slice ! tt T.the-row (slots .now) zs (same ∙ i .same) (slots .b) (slots .o) $
           -- [obs 0; the borrow 1; the token 2; the tally's cell 3; sheet's token 4; rules's 5; what sheet owns; what rules owns; locals]
           move ! (6 ∷ []) $ drop ! $ move ! (6 ∷ []) $ drop ! $ move ! (3 ∷ []) $
-          returns-within ! Post refl (look ! 63 refl) $
-          lets-go zs t (length (i .zs)) (i .k) a (same ∙ i .same) (e-a ∙ goes-no-more (rules .now) (sheet .now) s₀ (i .k) s (i .goes) less fine v (state (tallyOf t) (rowOf zs)) took (sym e-c ∙ is-false c not-it) (tallyOf t) (placeOf p)) ga)))))
+          returns-within ! Post refl (look ! 67 refl) $
+          lets-go zs t (length (i .zs)) (i .k) (stop-at a t) (same ∙ i .same) (ap (λ (b : Answer). ran b (state (tallyOf t) (rowOf zs))) e-a ∙ goes-no-more (rules .now) (sheet .now) s₀ (i .k) s (i .goes) less fine v (state (tallyOf t) (rowOf zs)) took (sym e-c ∙ is-false c not-it) (tallyOf t) (placeOf p)) (stop-is a ga t gt))))))
         where
           s : State
           s = state (tallyOf (i .t)) (rowOf (i .zs))
@@ -266,25 +278,25 @@ module _ {M : Type 1} (𝓤 : URA M) (H : Heap 𝓤) (A : Atoms 𝓤) (W : Given
       -- a record is lent to `take`, beside the row and the tally
       does : i .k < n → Sq W (At i) (runs (𝓣 .C) (𝓣 .Λ) En t₁ (anyQ (Turned i)))
       does less =
-          assigns ! (bin ! (lit ! tt) (load ! (from ! (stop !)) (look ! 55 refl)) (record { fits = at-fits (length (sheet .now)) (i .k) (room₀ .0) less })) (from ! (stop !)) (init ! 53 refl (tt, record { fits = at-fits (length (sheet .now)) (i .k) (room₀ .0) less })) $
-          assigns ! (bin ! (load ! (from ! (stop !)) (look ! 53 refl)) (lit ! tt) (record { fits = end-fits (length (sheet .now)) (i .k) (room₀ .0) less })) (from ! (stop !)) (init ! 51 refl (tt, record { fits = end-fits (length (sheet .now)) (i .k) (room₀ .0) less })) $
-          assigns ! (addr ! (from ! (fld ! refl (hop ! (look-in ! 60 (sub ! 0 refl (whole !))) (stop !))))) (from ! (stop !)) (init ! 39 refl (tt, tt)) $
-          assigns ! (agg ! (and-then ! (load ! (from ! (stop !)) (look ! 39 refl)) (and-then ! (load ! (from ! (fld ! refl (stop !))) (look-in ! 60 (sub ! 1 refl (whole !)))) (no-more !)))) (from ! (stop !)) (init ! 37 refl (tt, (tt, (record { fits = room-at T.the-row (i .same) room .0 }, tt)))) $
+          assigns ! (bin ! (lit ! tt) (load ! (from ! (stop !)) (look ! 59 refl)) (record { fits = at-fits (length (sheet .now)) (i .k) (room₀ .0) less })) (from ! (stop !)) (init ! 57 refl (tt, record { fits = at-fits (length (sheet .now)) (i .k) (room₀ .0) less })) $
+          assigns ! (bin ! (load ! (from ! (stop !)) (look ! 57 refl)) (lit ! tt) (record { fits = end-fits (length (sheet .now)) (i .k) (room₀ .0) less })) (from ! (stop !)) (init ! 55 refl (tt, record { fits = end-fits (length (sheet .now)) (i .k) (room₀ .0) less })) $
+          assigns ! (addr ! (from ! (fld ! refl (hop ! (look-in ! 64 (sub ! 0 refl (whole !))) (stop !))))) (from ! (stop !)) (init ! 39 refl (tt, tt)) $
+          assigns ! (agg ! (and-then ! (load ! (from ! (stop !)) (look ! 39 refl)) (and-then ! (load ! (from ! (fld ! refl (stop !))) (look-in ! 64 (sub ! 1 refl (whole !)))) (no-more !)))) (from ! (stop !)) (init ! 37 refl (tt, (tt, (record { fits = room-at T.the-row (i .same) room .0 }, tt)))) $
           assigns ! (addr ! (from ! (stop !))) (from ! (stop !)) (init ! 35 refl (tt, tt)) $
-          assigns ! (bin ! (load ! (from ! (fld ! refl (stop !))) (look-in ! 64 (sub ! 0 refl (whole !)))) (load ! (from ! (stop !)) (look ! 53 refl)) tt) (from ! (stop !)) (init ! 33 refl (tt, tt)) $
-          assigns ! (bin ! (load ! (from ! (stop !)) (look ! 51 refl)) (load ! (from ! (stop !)) (look ! 53 refl)) (at-end (i .k))) (from ! (stop !)) (init ! 31 refl (tt, record { fits = part-fits (length (sheet .now)) (i .k) (room₀ .0) less })) $
+          assigns ! (bin ! (load ! (from ! (fld ! refl (stop !))) (look-in ! 68 (sub ! 0 refl (whole !)))) (load ! (from ! (stop !)) (look ! 57 refl)) tt) (from ! (stop !)) (init ! 33 refl (tt, tt)) $
+          assigns ! (bin ! (load ! (from ! (stop !)) (look ! 55 refl)) (load ! (from ! (stop !)) (look ! 57 refl)) (at-end (i .k))) (from ! (stop !)) (init ! 31 refl (tt, record { fits = part-fits (length (sheet .now)) (i .k) (room₀ .0) less })) $
           assigns ! (addr ! (from ! (hop ! (look ! 33 refl) (stop !)))) (from ! (stop !)) (init ! 29 refl (tt, tt)) $
           assigns ! (agg ! (and-then ! (load ! (from ! (stop !)) (look ! 29 refl)) (and-then ! (load ! (from ! (stop !)) (look ! 31 refl)) (no-more !)))) (from ! (stop !)) (init ! 27 refl (tt, (tt, (record { fits = part-fits (length (sheet .now)) (i .k) (room₀ .0) less }, tt)))) $
-          rewrite ! 27 (λ (d : ℕ). ‵ (fat fullShare (tyAt (code.function .locals) 20) l₂₀ 0 (sliceVal (sheet .b, recordBytes narrow * i .k + sheet .o) d))) (part-count (sheet .now) (recordBytes narrow * i .k) (recordBytes narrow * i .k + recordBytes narrow) (at-end (i .k), record-inside (i .k) (length (sheet .now)) less)) refl $
+          rewrite ! 27 (λ (d : ℕ). ‵ (fat fullShare (tyAt (code.function .locals) 22) l₂₂ 0 (sliceVal (sheet .b, recordBytes narrow * i .k + sheet .o) d))) (part-count (sheet .now) (recordBytes narrow * i .k) (recordBytes narrow * i .k + recordBytes narrow) (at-end (i .k), record-inside (i .k) (length (sheet .now)) less)) refl $
           call-take-at ! at-mem run fm (known .take) sheet rules (i .k) less (i .zs) (i .t) (slots .b) (slots .o) l₅ 0 (room-at T.the-row (i .same) room) (next-fits (rules .now) (sheet .now) s₀ (i .k) (state (tallyOf (i .t)) (rowOf (i .zs))) (i .goes) less fine)
-          (λ γ ν δ ν′ δ′. (and-then ! (load ! (from ! (stop !)) (look ! 36 refl)) (and-then ! (load ! (from ! (stop !)) (look ! 34 refl)) (and-then ! (load ! (from ! (stop !)) (look ! 61 refl)) (and-then ! (load ! (from ! (stop !)) (look ! 26 refl)) (no-more !)))))) (λ v zs t same took gv.
-          land ! (from ! (stop !)) (init ! 49 refl (EL.lawful J.the-type J′.the-laws 𝓤 H A W tt .typed v _ gv .0)) $ forget ! 53 refl $ forget ! 51 refl $ forget ! 39 refl $ forget ! 37 refl $ forget ! 35 refl $ forget ! 33 refl $ forget ! 31 refl $ forget ! 29 refl $ forget ! 27 refl $
+          (λ γ ν δ ν′ δ′. (and-then ! (load ! (from ! (stop !)) (look ! 36 refl)) (and-then ! (load ! (from ! (stop !)) (look ! 34 refl)) (and-then ! (load ! (from ! (stop !)) (look ! 65 refl)) (and-then ! (load ! (from ! (stop !)) (look ! 26 refl)) (no-more !)))))) (λ v zs t same took gv.
+          land ! (from ! (stop !)) (init ! 53 refl (EL.lawful J.the-type J′.the-laws 𝓤 H A W tt .typed v _ gv .0)) $ forget ! 57 refl $ forget ! 55 refl $ forget ! 39 refl $ forget ! 37 refl $ forget ! 35 refl $ forget ! 33 refl $ forget ! 31 refl $ forget ! 29 refl $ forget ! 27 refl $
           answers less v zs t same took gv)
 
       turns : Sq W (At i) (runs (𝓣 .C) (𝓣 .Λ) En m.turn-1 (anyQ (Turned i)))
       unfolding afterTurn partOf
       turns =
-          assigns ! (bin ! (load ! (from ! (stop !)) (look ! 55 refl)) (load ! (from ! (stop !)) (look ! 58 refl)) tt) (from ! (stop !)) (init ! 41 refl (tt, tt)) $
+          assigns ! (bin ! (load ! (from ! (stop !)) (look ! 59 refl)) (load ! (from ! (stop !)) (look ! 62 refl)) tt) (from ! (stop !)) (init ! 41 refl (tt, tt)) $
           first ! $ branches ! (load ! (from ! (stop !)) (look ! 41 refl))
           (λ less. skips ! $ exec ! (𝓣 .C) (𝓣 .Λ) En t₁ (anyQ (Turned i)) $ forget ! 41 refl $ does (ltb→lt (i .k) n less))
           (λ over. jumps ! $ exec ! (𝓣 .C) (𝓣 .Λ) En m.t-7 (atRet En Post) $ forget ! 41 refl $
@@ -296,18 +308,18 @@ module _ {M : Type 1} (𝓤 : URA M) (H : Heap 𝓤) (A : Atoms 𝓤) (W : Given
   walk 𝓣 known =
       qed W (Tokens 𝓤 sheet rules slots ∷ ‵ (owns (ShrSlice (named 0) (sheet .life) u8 ∷ ShrSlice (named 1) (rules .life) u8 ∷ MutSlice (named 2) (slots .life) T.the-row ∷ []) (entry .0 .3) (entry .0 .4)) ∷ []) ∵
       enter ! (𝓣 .C) (𝓣 .Λ) code.function (lent-val sheet ∷ lent-val rules ∷ lent-val slots ∷ []) _ $
-      alloc1 ! (λ l₀. alloc1 ! (λ l₁. alloc1 ! (λ l₂. alloc1 ! (λ l₃. alloc1 ! (λ l₄. alloc1 ! (λ l₅. alloc1 ! (λ l₆. alloc1 ! (λ l₇. alloc1 ! (λ l₈. alloc1 ! (λ l₉. alloc1 ! (λ l₁₀. alloc1 ! (λ l₁₁. alloc1 ! (λ l₁₂. alloc1 ! (λ l₁₃. alloc1 ! (λ l₁₄. alloc1 ! (λ l₁₅. alloc1 ! (λ l₁₆. alloc1 ! (λ l₁₇. alloc1 ! (λ l₁₈. alloc1 ! (λ l₁₉. alloc1 ! (λ l₂₀. alloc1 ! (λ l₂₁. alloc1 ! (λ l₂₂. alloc1 ! (λ l₂₃. alloc1 ! (λ l₂₄. alloc1 ! (λ l₂₅. alloc1 ! (λ l₂₆. alloc1 ! (λ l₂₇. alloc1 ! (λ l₂₈. alloc1 ! (λ l₂₉. alloc0 ! $ params1 ! $
-      pass1 ! (init ! 56 refl (tt, (tt, (record { fits = room₀ .0 }, tt)))) $ pass1 ! (init ! 54 refl (tt, (tt, (record { fits = room₁ .0 }, tt)))) $ pass1 ! (init ! 52 refl (tt, (tt, (record { fits = room .0 }, tt)))) $ pass0 ! $
-      move ! (60 ∷ 61 ∷ []) $ opens-with-row ! tt sheet rules slots $
-      assigns ! (of-opd ! (load ! (from ! (fld ! refl (stop !))) (look-in ! 64 (sub ! 1 refl (whole !))))) (from ! (stop !)) (init ! 44 refl (tt, record { fits = room₀ .0 })) $
-      assigns ! (bin ! (load ! (from ! (stop !)) (look ! 44 refl)) (lit ! tt) (lit< tt)) (from ! (stop !)) (init ! 58 refl (tt, record { fits = count-fits (length (sheet .now)) (room₀ .0) })) $
+      alloc1 ! (λ l₀. alloc1 ! (λ l₁. alloc1 ! (λ l₂. alloc1 ! (λ l₃. alloc1 ! (λ l₄. alloc1 ! (λ l₅. alloc1 ! (λ l₆. alloc1 ! (λ l₇. alloc1 ! (λ l₈. alloc1 ! (λ l₉. alloc1 ! (λ l₁₀. alloc1 ! (λ l₁₁. alloc1 ! (λ l₁₂. alloc1 ! (λ l₁₃. alloc1 ! (λ l₁₄. alloc1 ! (λ l₁₅. alloc1 ! (λ l₁₆. alloc1 ! (λ l₁₇. alloc1 ! (λ l₁₈. alloc1 ! (λ l₁₉. alloc1 ! (λ l₂₀. alloc1 ! (λ l₂₁. alloc1 ! (λ l₂₂. alloc1 ! (λ l₂₃. alloc1 ! (λ l₂₄. alloc1 ! (λ l₂₅. alloc1 ! (λ l₂₆. alloc1 ! (λ l₂₇. alloc1 ! (λ l₂₈. alloc1 ! (λ l₂₉. alloc1 ! (λ l₃₀. alloc1 ! (λ l₃₁. alloc0 ! $ params1 ! $
+      pass1 ! (init ! 60 refl (tt, (tt, (record { fits = room₀ .0 }, tt)))) $ pass1 ! (init ! 58 refl (tt, (tt, (record { fits = room₁ .0 }, tt)))) $ pass1 ! (init ! 56 refl (tt, (tt, (record { fits = room .0 }, tt)))) $ pass0 ! $
+      move ! (64 ∷ 65 ∷ []) $ opens-with-row ! tt sheet rules slots $
+      assigns ! (of-opd ! (load ! (from ! (fld ! refl (stop !))) (look-in ! 68 (sub ! 1 refl (whole !))))) (from ! (stop !)) (init ! 44 refl (tt, record { fits = room₀ .0 })) $
+      assigns ! (bin ! (load ! (from ! (stop !)) (look ! 44 refl)) (lit ! tt) (lit< tt)) (from ! (stop !)) (init ! 62 refl (tt, record { fits = count-fits (length (sheet .now)) (room₀ .0) })) $
       call-nothing ! at-mem run (fmOf 𝓤 H (W .laws) 𝓣) (known .nothing) (no-more !) (λ t e gt.
       land ! (from ! (stop !)) (init ! 42 refl (LL.lawful Y.the-type Y′.the-laws 𝓤 H A W .typed t _ gt .0)) $
-      assigns ! (of-opd ! (load ! (from ! (stop !)) (look ! 42 refl))) (from ! (stop !)) (init ! 56 refl (LL.lawful Y.the-type Y′.the-laws 𝓤 H A W .typed t _ gt .0)) $
-      assigns ! (of-opd ! (lit ! tt)) (from ! (stop !)) (init ! 54 refl (tt, record { fits = lit< tt })) $ forget ! 44 refl $ forget ! 42 refl $
-      move ! (56 ∷ []) $ lendable ! Y.the-row (λ v b. refl) (LL.makes Y.the-type Y′.the-plain 𝓤 H A) t gt $ move ! (1 ∷ []) $
-      first ! $ blocks ! $ loops ! 𝓣 Nearer Nearer-wf (At 𝓣 known l₀ l₁ l₂ l₃ l₄ l₅ l₆ l₇ l₈ l₉ l₁₀ l₁₁ l₁₂ l₁₃ l₁₄ l₁₅ l₁₆ l₁₇ l₁₈ l₁₉ l₂₀ l₂₁ l₂₂ l₂₃ l₂₄ l₂₅ l₂₆ l₂₇ l₂₈ l₂₉) (turns 𝓣 known l₀ l₁ l₂ l₃ l₄ l₅ l₆ l₇ l₈ l₉ l₁₀ l₁₁ l₁₂ l₁₃ l₁₄ l₁₅ l₁₆ l₁₇ l₁₈ l₁₉ l₂₀ l₂₁ l₂₂ l₂₃ l₂₄ l₂₅ l₂₆ l₂₇ l₂₈ l₂₉)
-      (record { k = 0; zs = (slots .now); t = t; few = zero-le; same = refl; goes = goes-none (rules .now) (sheet .now) (rowOf (slots .now)) (tallyOf t) e }))))))))))))))))))))))))))))))))
+      assigns ! (of-opd ! (load ! (from ! (stop !)) (look ! 42 refl))) (from ! (stop !)) (init ! 60 refl (LL.lawful Y.the-type Y′.the-laws 𝓤 H A W .typed t _ gt .0)) $
+      assigns ! (of-opd ! (lit ! tt)) (from ! (stop !)) (init ! 58 refl (tt, record { fits = lit< tt })) $ forget ! 44 refl $ forget ! 42 refl $
+      move ! (60 ∷ []) $ lendable ! Y.the-row (λ v b. refl) (LL.makes Y.the-type Y′.the-plain 𝓤 H A) t gt $ move ! (1 ∷ []) $
+      first ! $ blocks ! $ loops ! 𝓣 Nearer Nearer-wf (At 𝓣 known l₀ l₁ l₂ l₃ l₄ l₅ l₆ l₇ l₈ l₉ l₁₀ l₁₁ l₁₂ l₁₃ l₁₄ l₁₅ l₁₆ l₁₇ l₁₈ l₁₉ l₂₀ l₂₁ l₂₂ l₂₃ l₂₄ l₂₅ l₂₆ l₂₇ l₂₈ l₂₉ l₃₀ l₃₁) (turns 𝓣 known l₀ l₁ l₂ l₃ l₄ l₅ l₆ l₇ l₈ l₉ l₁₀ l₁₁ l₁₂ l₁₃ l₁₄ l₁₅ l₁₆ l₁₇ l₁₈ l₁₉ l₂₀ l₂₁ l₂₂ l₂₃ l₂₄ l₂₅ l₂₆ l₂₇ l₂₈ l₂₉ l₃₀ l₃₁)
+      (record { k = 0; zs = (slots .now); t = t; few = zero-le; same = refl; goes = goes-none (rules .now) (sheet .now) (rowOf (slots .now)) (tallyOf t) e }))))))))))))))))))))))))))))))))))
 
 module _ {M : Type 1} (𝓤 : URA M) (H : Heap 𝓤) (A : Atoms 𝓤) (W : Given 𝓤 H A) (at-mem : Memory → SProp 𝓤) (run : Routine → Fun 𝓤) where
   walks : (𝓣 : Tables 𝓤 H) → Known 𝓤 H A at-mem run (𝓣 .C) → Walks 𝓤 H A f.ended stayed (WpFn 𝓤 H (𝓣 .C) (𝓣 .Λ) code.function) (f.clauses 𝓤 H A at-mem run)
