@@ -44,6 +44,8 @@ ALLOWED = [
     ("sheet/src/lib.rt", "Reason::NotHeld => 16", "the number of a refusal"),
     ("demands/specs/Starred.antt", "", "worked sheets, byte by byte"),
     ("demands/specs/Telling.antt", "", "worked sheets, byte by byte"),
+    ("demands/specs/Limits.antt", "PressLimit 512 513", "the document's own numbers; the proof compares them with the named limit"),
+    ("demands/specs/Limits.antt", "ReplayLimit 1023 1024", "the same for the replay"),
     ("stdio/src/text.rt", "SET_DIGITS: usize = 16", "the hex digits of a word"),
     ("stdio/src/text.rt", "% 16", "the base of hex digits"),
     ("stdio/src/text.rt", "/ 16", "the base of hex digits"),

@@ -1,0 +1,88 @@
+-- "512 records not refused by 3, 513 are"; and 1,023 and 1,024 of the replay. Said of any bytes of so many records, whatever they hold, and
+-- of whatever rule table, room, marks and slots are lent.
+use Prim.Native.Nat.{ℕ, _-_, _*_, _%_, _<_, _≤_}
+use mathlib.Core.Path.{_≡_}
+use mathlib.Core.List.{List}
+use lib.ListN.{length, replicate}
+use Rattle.sheet.specs.Editions.{Edition, narrow, recordBytes, lineBytes, pressRecords, replayRecords, tableLines}
+use Rattle.sheet.specs.Records.{given, Record, node}
+use Rattle.sheet.specs.Fields.{sheetBytes, ruleLines, ruleLine}
+use Rattle.replay_spec.specs.Slots.{Slot}
+use Rattle.replay_spec.specs.Replay as Replay
+use Rattle.press_spec.specs.Press as Press
+use Rattle.press_spec.specs.Press.{Call, Report}
+use Rattle.demands.specs.Demands.{Bytes}
+
+-- so many records are not too many: if the answer is a refusal, its number is not 3
+abbrev pub PressTakes : Edition → ℕ → Type 0
+PressTakes e n = (c : Call) (k : ℕ) → length (c .sheet) ≡ recordBytes e * n → Press.press e c .answer ≡ Press.refused 3 k → ⊥
+
+abbrev pub ReplayTakes : Edition → ℕ → Type 0
+ReplayTakes e n =
+    (sheet rules : List ℕ) (slots : List Slot) (k : ℕ)
+    → length sheet ≡ recordBytes e * n
+    → Replay.replay e sheet rules slots .answer ≡ Replay.refused 3 k
+    → ⊥
+
+-- so many are: the answer is 3 at record 0, and what was lent is as it was
+abbrev pub PressTurnsAway : Edition → ℕ → Type 0
+PressTurnsAway e n = (c : Call) → length (c .sheet) ≡ recordBytes e * n → Press.press e c ≡ Press.outcome (Press.refused 3 0) (c .out) (c .marks)
+
+abbrev pub ReplayTurnsAway : Edition → ℕ → Type 0
+ReplayTurnsAway e n =
+    (sheet rules : List ℕ) (slots : List Slot)
+    → length sheet ≡ recordBytes e * n
+    → Replay.replay e sheet rules slots ≡ Replay.outcome (Replay.refused 3 0) slots
+
+-- ---- and there are sheets of so many records that are accepted: copies of the given record of line 0
+
+abbrev pub copies : Edition → List ℕ → ℕ → List Record
+copies e rules n = replicate n (node (given 0 (ruleLine e rules 0)))
+
+-- a rule table that has a line
+pub record HasLine (e : Edition) (rules : List ℕ) : Type 0 where
+  pub rule-bytes : Bytes rules
+  pub whole : length rules % lineBytes e ≡ 0
+  pub few : ruleLines e rules ≤ tableLines e
+  pub some : 0 < ruleLines e rules
+
+abbrev pub PressFills : Edition → ℕ → Type 0
+PressFills e n =
+    (rules out marks : List ℕ)
+    → HasLine e rules
+    → recordBytes e * (2 * n - 1) ≤ length out
+    → ruleLines e rules ≤ length marks
+    → (report : Report) × (Press.press e (Press.call (sheetBytes e (copies e rules n)) rules out marks) .answer ≡ Press.accepted report)
+
+abbrev pub ReplayFills : Edition → ℕ → Type 0
+ReplayFills e n =
+    (rules : List ℕ) (slots : List Slot)
+    → HasLine e rules
+    → n ≤ length slots
+    → Replay.replay e (sheetBytes e (copies e rules n)) rules slots .answer
+    ≡ Replay.accepted (record { conclusion = ruleLine e rules 0; nodes = n; steps = 0; peak = n })
+
+-- ---- of any number of records
+
+abbrev pub Limits : Type 0
+Limits =
+    (e : Edition) (n : ℕ)
+    → (n ≤ pressRecords e → PressTakes e n × (0 < n → PressFills e n))
+    × (pressRecords e < n → PressTurnsAway e n)
+    × (n ≤ replayRecords e → ReplayTakes e n × (0 < n → ReplayFills e n))
+    × (replayRecords e < n → ReplayTurnsAway e n)
+
+-- ---- in the document's numbers: the last that is taken, and the first that is not
+
+pub record PressLimit (last first : ℕ) : Type 0 where
+  pub takes : PressTakes narrow last
+  pub fills : PressFills narrow last
+  pub turns-away : PressTurnsAway narrow first
+
+pub record ReplayLimit (last first : ℕ) : Type 0 where
+  pub takes : ReplayTakes narrow last
+  pub fills : ReplayFills narrow last
+  pub turns-away : ReplayTurnsAway narrow first
+
+abbrev pub AtTheLimits : Type 0
+AtTheLimits = PressLimit 512 513 × ReplayLimit 1023 1024
