@@ -57,9 +57,9 @@ pub fn free(slots: &mut [Slot], at: SlotNo)
 pub fn clear(slots: &mut [Slot])
     ensures { λ _. ⌜ rowOf (now (slots .exit)) ≡ cleared (rowOf (now (slots .entry))) ⌝ }
 {
-    let mut i = 0;
-    while i < slots.len() {
-        free(slots, SlotNo(i));
-        i += 1;
+    let mut at = 0;
+    while at < slots.len() {
+        free(slots, SlotNo(at));
+        at += 1;
     }
 }

@@ -44,7 +44,7 @@ use Rattle.lending.proofs.Facts.{beside}
 use Rattle.lending.proofs.Fields.{load-field}
 use Rattle.lending.proofs.Leaving.{leaves}
 use Rattle.lending.proofs.Lends.{passed, lent-for, call-with-row, Tokens, Opened, Closed, opens-with-row, ends-with-row}
-use Rattle.lending.proofs.Locals.{envOf, localsOf, tyAt, then}
+use Rattle.lending.proofs.Locals.{envOf, localsOf, tyAt, then, literal}
 use Rattle.lending.proofs.Parts.{lent-of, lent-val, Lent}
 use Rattle.lending.proofs.Rows.{room-at}
 use Rattle.sheet.specs.declared.Verdict.{Verdict}
@@ -158,12 +158,12 @@ module _ {M : Type 1} (𝓤 : URA M) (H : Heap 𝓤) (A : Atoms 𝓤) (W : Given
       refuses : (v : Verdict) → v ≡ verdict → passes v ≡ false → Is J.the-row v (verdict-val v ∷ [])
           → Sq W (‵ (row T.the-row fullShare (slots .now) (slots .b) (slots .o)) ∷ Opened 𝓤 sheet rules slots (localsOf 𝓤 (code.function .locals) bs (none ∷ some (lent-val sheet) ∷ some (lent-val rules) ∷ some (lent-val slots) ∷ some (verdict-val v) ∷ []) [])) (runs C Λ En m.t-6 (atRet En Post))
       refuses v e no-pass gv =
-          assigns ! (agg ! (and-then ! (lit ! tt) (no-more !))) (from ! (stop !)) (init ! 12 refl (LL.lawful R.the-type R′.the-laws 𝓤 H A W .typed (number 0) _ (number-is 0 (lit< tt)) .0)) $
+          assigns ! (agg ! (and-then ! (lit ! tt) (no-more !))) (from ! (stop !)) (init ! 12 refl (LL.lawful R.the-type R′.the-laws 𝓤 H A W .typed (number (literal m.s-6)) _ (number-is (literal m.s-6) (lit< tt)) .0)) $
           call-nothing ! at-mem run fm (known .nothing) (no-more !) (λ u _ gu.
           land ! (from ! (stop !)) (init ! 10 refl (LL.lawful Y.the-type Y′.the-laws 𝓤 H A W .typed u _ gu .0)) $
           call-nowhere ! at-mem run fm (known .nowhere) (no-more !) (λ p _ gp.
           land ! (from ! (stop !)) (init ! 8 refl (EL.lawful F.the-type F′.the-laws 𝓤 H A W tt .typed p _ gp .0)) $
-          call-end ! at-mem run fm (known .end) v gv (number 0) (number-is 0 (lit< tt)) u gu p gp (and-then ! (load ! (from ! (stop !)) (look ! 37 refl)) (and-then ! (load ! (from ! (stop !)) (look ! 13 refl)) (and-then ! (load ! (from ! (stop !)) (look ! 11 refl)) (and-then ! (load ! (from ! (stop !)) (look ! 9 refl)) (no-more !))))) (λ r e-r gr.
+          call-end ! at-mem run fm (known .end) v gv (number (literal m.s-6)) (number-is (literal m.s-6) (lit< tt)) u gu p gp (and-then ! (load ! (from ! (stop !)) (look ! 37 refl)) (and-then ! (load ! (from ! (stop !)) (look ! 13 refl)) (and-then ! (load ! (from ! (stop !)) (look ! 11 refl)) (and-then ! (load ! (from ! (stop !)) (look ! 9 refl)) (no-more !))))) (λ r e-r gr.
           land ! (from ! (stop !)) (init ! 44 refl (EL.lawful B.the-type B′.the-laws 𝓤 H A W tt .typed r _ gr .0)) $
           move ! (0 ∷ 5 ∷ 6 ∷ 7 ∷ []) $ closes-slice ! tt T.the-row (slots .now) (slots .now) refl (slots .b) (slots .o) $
           -- [obs; the borrow; the token; sheet's token 3; rules's 4; what they own; locals from 7]
@@ -205,7 +205,7 @@ module _ {M : Type 1} (𝓤 : URA M) (H : Heap 𝓤) (A : Atoms 𝓤) (W : Given
         assigns ! (of-opd ! (load ! (from ! (fld ! refl (stop !))) (look-in ! 42 (sub ! 1 refl (whole !))))) (from ! (stop !)) (init ! 32 refl (tt, record { fits = room₀ .0 })) $
         assigns ! (of-opd ! (load ! (from ! (fld ! refl (stop !))) (look-in ! 40 (sub ! 1 refl (whole !))))) (from ! (stop !)) (init ! 30 refl (tt, record { fits = room₁ .0 })) $
         call-plain ! fm lengths′.ended (lengths′.clauses 𝓤 H A at-mem run) (known .lengths) tt tt tt (id⊢ 𝓤 _) (uint-makes 𝓤 H A W w64, (uint-makes 𝓤 H A W w64, (uint-makes 𝓤 H A W w64, tt))) verdict-val (EL.tells J.the-type J′.the-laws)
-        ((replayRecords narrow), (length (sheet .now), (length (rules .now), tt))) (vint w64 (replayRecords narrow) ∷ [], (vint w64 (length (sheet .now)) ∷ [], (vint w64 (length (rules .now)) ∷ [], tt))) ((refl, lit< tt), ((refl, room₀ .0), ((refl, room₁ .0), tt))) tt (id⊢ 𝓤 _) (λ v. v ≡ verdict) (λ v e. id⊢ 𝓤 _)
+        (literal m.s-3, (length (sheet .now), (length (rules .now), tt))) (vint w64 (literal m.s-3) ∷ [], (vint w64 (length (sheet .now)) ∷ [], (vint w64 (length (rules .now)) ∷ [], tt))) ((refl, lit< tt), ((refl, room₀ .0), ((refl, room₁ .0), tt))) tt (id⊢ 𝓤 _) (λ v. v ≡ checkLengths narrow (literal m.s-3) (length (sheet .now)) (length (rules .now))) (λ v e. id⊢ 𝓤 _)
         (and-then ! (lit ! tt) (and-then ! (load ! (from ! (stop !)) (look ! 33 refl)) (and-then ! (load ! (from ! (stop !)) (look ! 31 refl)) (no-more !)))) (λ v e gv.
         land ! (from ! (stop !)) (init ! 36 refl (EL.lawful J.the-type J′.the-laws 𝓤 H A W tt .typed v _ gv .0)) $
         call-passes ! at-mem run fm (known .passes) v gv (and-then ! (load ! (from ! (stop !)) (look ! 37 refl)) (no-more !)) (λ c e-c.

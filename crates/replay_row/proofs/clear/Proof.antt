@@ -6,7 +6,8 @@ use mathlib.Core.List.{List, [], _∷_, _++_, append-nil}
 use mathlib.Core.Option.{none, some}
 use mathlib.Core.WellFounded.{WellFounded, InvImage·wf}
 use native.Mathlib.Nat.{le-antisymm, lt-of-le-of-lt, not-suc-le-zero, le-of-suc-le-suc}
-use native.Mathlib.Numerals.{add-one, add-one-le, add-one-dec}
+use native.Mathlib.Numerals.{add-one, add-one-dec}
+use native.Mathlib.Omega.{arith}
 use lib.ListN.{length, set, drop, replicate, length-set}
 use lib.Seq.{drop-length}
 use lib.WfN.{Nat·lt-wfRel}
@@ -50,7 +51,7 @@ use Rattle.replay_slots.specs.declared.Slot.{Slot}
 use Rattle.replay_slots.proofs.Slot as T
 use Rattle.replay_slots.proofs.Rows.{row-length}
 use Rattle.lending.proofs.Rows.{rows, freed}
-use Rattle.lending.proofs.Locals.{envOf, localsOf, tyAt, tail}
+use Rattle.lending.proofs.Locals.{envOf, localsOf, tyAt, tail, literal}
 use Rattle.replay_row.proofs.Cells.{nv, number, number-is}
 use Rattle.replay_row.proofs.Prims.{Free, call-free}
 use Rattle.replay_row.proofs.free.Symbol as free-def
@@ -131,6 +132,10 @@ module _ {M : Type 1} (𝓤 : URA M) (H : Heap 𝓤) (A : Atoms 𝓤) (W : Given
     abbrev Turned : Upto → Out → SProp 𝓤
     Turned i = afterTurn 𝓤 H (Below 𝓤 H A Nearer At i) (afterBlock 𝓤 H (afterSeq 𝓤 H (Wp 𝓤 H (𝓣 .C) (𝓣 .Λ) En m.t-3 (atReturn 𝓤 H En Post)) (atReturn 𝓤 H En Post)))
 
+    -- how far a turn goes on
+    abbrev pace : ℕ
+    pace = literal (tail (tail (tail (tail (tail (tail (tail m.turn-1)))))))
+
     turns : (i : Upto) → Sq W (At i) (runs (𝓣 .C) (𝓣 .Λ) En m.turn-1 (anyQ (Turned i)))
     unfolding afterTurn
     turns i =
@@ -144,9 +149,9 @@ module _ {M : Type 1} (𝓤 : URA M) (H : Heap 𝓤) (A : Atoms 𝓤) (W : Given
         assigns ! (agg ! (and-then ! (load ! (from ! (stop !)) (look ! 16 refl)) (no-more !))) (from ! (stop !)) (init ! 4 refl (LL.lawful N.the-type N′.the-laws 𝓤 H A W .typed (number (i .0)) _ is-number .0)) $
         call-free ! at-mem run (fmOf 𝓤 H (W .laws) 𝓣) known (i .2) b o (number (i .0)) (subst (Room T.the-row) (sym (i .3)) room) is-number (λ ν δ. and-then ! (load ! (from ! (stop !)) (look ! 7 refl)) (and-then ! (load ! (from ! (stop !)) (look ! 5 refl)) (no-more !))) (λ zs e.
         land ! (from ! (stop !)) (init ! 10 refl (tt, tt)) $
-        assigns-last ! (bin ! (load ! (from ! (stop !)) (look ! 16 refl)) (lit ! tt) (record { fits = fits (add-one-le (lt less)) })) (from ! (stop !)) (store ! 16 refl (tt, record { fits = fits (add-one-le (lt less)) })) $
+        assigns-last ! (bin ! (load ! (from ! (stop !)) (look ! 16 refl)) (lit ! tt) (record { fits = fits (more less) })) (from ! (stop !)) (store ! 16 refl (tt, record { fits = fits (more less) })) $
         forget ! 4 refl $ forget ! 6 refl $ forget ! 8 refl $ forget ! 10 refl $ forget ! 12 refl $ forget ! 14 refl $
-        again ! Nearer At i (i .0 + 1, add-one-le (lt less), zs, freed-length (i .2) zs (i .0) e ∙ i .3, swept-more (i .0) ys (i .2) zs (lt less) (i .4) e) (add-one-dec n (i .0) (lt less))))
+        again ! Nearer At i (i .0 + pace, more less, zs, freed-length (i .2) zs (i .0) e ∙ i .3, swept-more (i .0) ys (i .2) zs (lt less) (i .4) e) (add-one-dec n (i .0) (lt less))))
         (λ over. jumps ! $ exec ! (𝓣 .C) (𝓣 .Λ) En m.t-3 (atRet En Post) $
         closes-slice ! tt T.the-row ys (i .2) (i .3) b o $
         -- [obs 0; the borrow 1; the token 2; _8 at 3; …; _0 at 19]
@@ -156,6 +161,9 @@ module _ {M : Type 1} (𝓤 : URA M) (H : Heap 𝓤) (A : Atoms 𝓤) (W : Given
       where
         lt : Holds (ltb (i .0) n) → i .0 < n
         lt less = ltb→lt (i .0) n less
+
+        more : Holds (ltb (i .0) n) → i .0 + pace ≤ n
+        more less = omega (arith, lt less)
 
         fits : {j : ℕ} → j ≤ n → j < 2 ^ 64
         fits {j} l = lt-of-le-of-lt l (room .0)
@@ -172,7 +180,7 @@ module _ {M : Type 1} (𝓤 : URA M) (H : Heap 𝓤) (A : Atoms 𝓤) (W : Given
       -- [the row; the open borrow; obs; auth; true; slots's fact; true; _8 at 7; …; _2 at 19; …; _0 at 23]
       assigns ! (of-opd ! (lit ! tt)) (from ! (stop !)) (init ! 19 refl (tt, record { fits = lit< tt })) $
       keep ! (0 ∷ 1 ∷ 2 ∷ 3 ∷ 7 ∷ 8 ∷ 9 ∷ 10 ∷ 11 ∷ 12 ∷ 13 ∷ 14 ∷ 15 ∷ 16 ∷ 17 ∷ 18 ∷ 19 ∷ 20 ∷ 21 ∷ 22 ∷ 23 ∷ 24 ∷ []) $
-      first ! $ blocks ! $ loops ! 𝓣 Nearer Nearer-wf (At 𝓣 known l₀ l₁ l₂ l₃ l₄ l₅ l₆ l₇ l₈) (turns 𝓣 known l₀ l₁ l₂ l₃ l₄ l₅ l₆ l₇ l₈) (0, zero-le, ys, refl, refl))))))))))
+      first ! $ blocks ! $ loops ! 𝓣 Nearer Nearer-wf (At 𝓣 known l₀ l₁ l₂ l₃ l₄ l₅ l₆ l₇ l₈) (turns 𝓣 known l₀ l₁ l₂ l₃ l₄ l₅ l₆ l₇ l₈) (literal m.s-1, omega arith, ys, refl, refl))))))))))
 
 meets : {M : Type 1} (𝓤 : URA M) (H : Heap 𝓤) (A : Atoms 𝓤) → Given 𝓤 H A → (at-mem : Memory → SProp 𝓤) (run : Routine → Fun 𝓤) (𝓣 : Tables 𝓤 H) → Triple 𝓤 (𝓣 .C #free) (Free 𝓤 H A at-mem run)
     → Meets 𝓤 H A f.signature (WpFn 𝓤 H (𝓣 .C) (𝓣 .Λ) code.function) (f.spec 𝓤 H A at-mem run)

@@ -7,7 +7,8 @@ use mathlib.Core.List.{List, [], _∷_}
 use mathlib.Core.Option.{none, some}
 use mathlib.Core.WellFounded.{WellFounded, InvImage·wf}
 use native.Mathlib.Nat.{le-antisymm, lt-of-le-of-lt, lt-of-lt-of-le}
-use native.Mathlib.Numerals.{add-one-le, add-one-dec}
+use native.Mathlib.Numerals.{add-one-dec}
+use native.Mathlib.Omega.{arith}
 use lib.ListN.{length, getD}
 use lib.WfN.{Nat·lt-wfRel}
 use lib.Dec.{T as Holds, ltb, ltb→lt, nltb→le, lit<}
@@ -81,7 +82,7 @@ use Rattle.replay_slots.proofs.nowhere.Symbol.{name as #nowhere}
 use Rattle.replay_slots.proofs.nowhere.Met as nowhere-thm
 use Rattle.lending.proofs.Calls.{call-plain}
 use Rattle.lending.proofs.Rows.{rows, freed}
-use Rattle.lending.proofs.Locals.{envOf, localsOf, tail}
+use Rattle.lending.proofs.Locals.{envOf, localsOf, tail, literal}
 use Rattle.replay_row.proofs.Cells.{sv, nv, gv, pv, blank, blank-is, number, number-is, mul-fits}
 use Rattle.replay_row.proofs.find.Key.{name as #key}
 use Rattle.replay_row.proofs.find as f
@@ -182,6 +183,10 @@ module _ {M : Type 1} (𝓤 : URA M) (H : Heap 𝓤) (A : Atoms 𝓤) (W : Given
       abbrev Turned : Upto → Out → SProp 𝓤
       Turned i = afterTurn 𝓤 H (Below 𝓤 H A Nearer At i) (afterBlock 𝓤 H (afterSeq 𝓤 H (Wp 𝓤 H (𝓣 .C) (𝓣 .Λ) En m.t-5 (atReturn 𝓤 H En Post)) (atReturn 𝓤 H En Post)))
 
+      -- how far a turn goes on
+      abbrev pace : ℕ
+      pace = literal (tail (tail (tail (tail (tail (tail (tail (tail m.turn-1))))))))
+
       turns : (i : Upto) → Sq W (At i) (runs (𝓣 .C) (𝓣 .Λ) En m.turn-1 (anyQ (Turned i)))
       unfolding afterTurn
       turns i =
@@ -212,9 +217,9 @@ module _ {M : Type 1} (𝓤 : URA M) (H : Heap 𝓤) (A : Atoms 𝓤) (W : Given
           by ! (exits p (finds x ys (i .0) r p (lt less) (i .2) e (is-true r hit) ep) gp)))
           -- another: the next turn
           (λ miss. skips ! $ exec ! (𝓣 .C) (𝓣 .Λ) En (tail (tail (tail (tail (tail (tail (tail (tail m.turn-1)))))))) (anyQ (Turned i)) $
-          assigns-last ! (bin ! (load ! (from ! (stop !)) (look ! 20 refl)) (lit ! tt) (record { fits = fits (add-one-le (below less)) })) (from ! (stop !)) (store ! 20 refl (tt, record { fits = fits (add-one-le (below less)) })) $
+          assigns-last ! (bin ! (load ! (from ! (stop !)) (look ! 20 refl)) (lit ! tt) (record { fits = fits (more less) })) (from ! (stop !)) (store ! 20 refl (tt, record { fits = fits (more less) })) $
           forget ! 6 refl $ forget ! 8 refl $ forget ! 10 refl $ forget ! 12 refl $ forget ! 14 refl $ forget ! 18 refl $
-          again ! Nearer At i (i .0 + 1, add-one-le (below less), passes x ys (i .0) r (i .2) e (is-false r miss)) (add-one-dec top (i .0) (below less))))))
+          again ! Nearer At i (i .0 + pace, more less, passes x ys (i .0) r (i .2) e (is-false r miss)) (add-one-dec top (i .0) (below less))))))
           -- none is left
           (λ over. jumps ! $ exec ! (𝓣 .C) (𝓣 .Λ) En m.t-5 (atRet En Post) $
           call-plain ! fm nowhere′.ended (nowhere′.clauses 𝓤 H A at-mem run) (known .misses) tt tt tt (id⊢ 𝓤 _) tt pv (EL.tells F.the-type F′.the-laws) tt tt tt tt (id⊢ 𝓤 _) (λ p. placeOf p ≡ nowhere) (λ p e. id⊢ 𝓤 _) (no-more !) (λ p ep gp.
@@ -229,6 +234,9 @@ module _ {M : Type 1} (𝓤 : URA M) (H : Heap 𝓤) (A : Atoms 𝓤) (W : Given
 
           below : Holds (ltb (i .0) top) → i .0 < top
           below less = ltb→lt (i .0) top less
+
+          more : Holds (ltb (i .0) top) → i .0 + pace ≤ top
+          more less = omega (arith, below less)
 
           lt : Holds (ltb (i .0) top) → i .0 < n
           lt less = lt-of-lt-of-le (below less) top-le
@@ -253,7 +261,7 @@ module _ {M : Type 1} (𝓤 : URA M) (H : Heap 𝓤) (A : Atoms 𝓤) (W : Given
       assigns ! (of-opd ! (lit ! tt)) (from ! (stop !)) (init ! 23 refl (tt, record { fits = lit< tt })) $
       keep ! (0 ∷ 1 ∷ 2 ∷ 4 ∷ 7 ∷ 8 ∷ 9 ∷ 10 ∷ 11 ∷ 12 ∷ 13 ∷ 14 ∷ 15 ∷ 16 ∷ 17 ∷ 18 ∷ 19 ∷ 20 ∷ 21 ∷ 22 ∷ 23 ∷ 24 ∷ 25 ∷ 26 ∷ 27 ∷ 28 ∷ 29 ∷ 30 ∷ 31 ∷ 32 ∷ []) $
       first ! $ blocks ! $ loops ! 𝓣 (Nearer top top-is) (Nearer-wf top top-is) (At top top-is 𝓣 known q′ l₀ l₁ l₂ l₃ l₄ l₅ l₆ l₇ l₈ l₉ l₁₀ l₁₁ l₁₂) (turns top top-is 𝓣 known q′ l₀ l₁ l₂ l₃ l₄ l₅ l₆ l₇ l₈ l₉ l₁₀ l₁₁ l₁₂)
-      (0, zero-le, below-none (λ (k : ℕ). isSought (soughtOf x) (getD (rowOf ys) k empty) ≡ false)))))))))))))))))
+      (literal m.s-3, omega arith, below-none (λ (k : ℕ). isSought (soughtOf x) (getD (rowOf ys) k empty) ≡ false)))))))))))))))))
 
 meets : {M : Type 1} (𝓤 : URA M) (H : Heap 𝓤) (A : Atoms 𝓤) → Given 𝓤 H A → (at-mem : Memory → SProp 𝓤) (run : Routine → Fun 𝓤) (𝓣 : Tables 𝓤 H) → Known 𝓤 H A at-mem run (𝓣 .C)
     → Meets 𝓤 H A f.signature (WpFn 𝓤 H (𝓣 .C) (𝓣 .Λ) code.function) (f.spec 𝓤 H A at-mem run)

@@ -39,7 +39,7 @@ use denote.Triple.Walked.{says, Stays, stay-slice, stay-dropped, walkOf, goes-sl
 use denote.Exit.{yes}
 use native.Mathlib.Omega.{arith}
 use native.Mathlib.Nat.{le-antisymm}
-use native.Mathlib.Numerals.{add-one-le, add-one-dec}
+use native.Mathlib.Numerals.{add-one-dec}
 use mathlib.Core.WellFounded.{WellFounded, InvImage·wf}
 use lib.WfN.{Nat·lt-wfRel}
 use lib.Dec.{ltb→lt, nltb→le, lit<}
@@ -47,7 +47,7 @@ use lib.Ieee.Bits.{is-true, is-false}
 use borrow.Rule.Slice.PartAt.{part-count}
 use Rattle.lending.proofs.Leaving.{lays, leaves}
 use Rattle.lending.proofs.Lends.{passed, Tokens, Opened, Closed, opens-with-row, ends-with-row}
-use Rattle.lending.proofs.Locals.{envOf, localsOf, tyAt, past, tail}
+use Rattle.lending.proofs.Locals.{envOf, localsOf, tyAt, past, tail, then, literal}
 use Rattle.lending.proofs.Parts.{lent-of, lent-val, Lent}
 use Rattle.lending.proofs.Rows.{room-at, lendable, settled}
 use Rattle.sheet.specs.declared.Verdict.{Verdict}
@@ -237,6 +237,10 @@ module _ {M : Type 1} (𝓤 : URA M) (H : Heap 𝓤) (A : Atoms 𝓤) (W : Given
       abbrev t₂ : Body′
       t₂ = tail (tail (tail (tail (tail (tail (tail (tail (tail (tail t₁)))))))))
 
+      -- how far a turn goes on
+      abbrev pace : ℕ
+      pace = literal (then (tail t₂))
+
       -- what is said of the record
       answers : (less : i .k < n) (v : Verdict) (zs : List Slot) (t : Tally) → length zs ≡ length (i .zs) → Takes (rules .now) (lent (sheet .now) (i .k)) (i .zs) (i .t) v zs t → Is J.the-row v (verdict-val v ∷ [])
           → Sq W (‵ (row T.the-row fullShare zs (slots .b) (slots .o)) ∷ ‵ (partAt Y.the-row fullShare t l₅ 0) ∷ Opened 𝓤 sheet rules slots (localsOf 𝓤 (past 6 (code.function .locals)) (past 6 bs) (some (vint w64 (i .k)) ∷ none ∷ none ∷ some (verdict-val v) ∷ []) (‵ (fdies (tyAt (code.function .locals) 5) l₅) ∷ localsOf 𝓤 (code.function .locals) (l₀ ∷ l₁ ∷ l₂ ∷ l₃ ∷ l₄ ∷ []) (none ∷ some (lent-val sheet) ∷ some (lent-val rules) ∷ some (sliceVal (slots .b, slots .o) (length (i .zs))) ∷ some (vint w64 (length (sheet .now) / recordBytes narrow)) ∷ []) [])))
@@ -249,7 +253,7 @@ module _ {M : Type 1} (𝓤 : URA M) (H : Heap 𝓤) (A : Atoms 𝓤) (W : Given
           -- taken: the next turn
           (λ it. assigns-last ! (bin ! (load ! (from ! (stop !)) (look ! 59 refl)) (lit ! tt) (record { fits = more-fits })) (from ! (stop !)) (store ! 59 refl (tt, record { fits = more-fits })) $
           rewrite ! 64 (λ (d : ℕ). ‵ (fat fullShare (tyAt (code.function .locals) 3) l₃ 0 (sliceVal (slots .b, slots .o) d))) (sym same) refl $ forget ! 53 refl $ forget ! 25 refl $
-          again ! Nearer At i (record { k = i .k + 1; zs = zs; t = t; few = add-one-le less; same = same ∙ i .same; goes = goes-on (rules .now) (sheet .now) s₀ (i .k) s (i .goes) less fine v (state (tallyOf t) (rowOf zs)) took (sym e-c ∙ is-true c it) }) (add-one-dec n (i .k) less))
+          again ! Nearer At i (record { k = i .k + pace; zs = zs; t = t; few = omega (arith, less); same = same ∙ i .same; goes = goes-on (rules .now) (sheet .now) s₀ (i .k) s (i .goes) less fine v (state (tallyOf t) (rowOf zs)) took (sym e-c ∙ is-true c it) }) (add-one-dec n (i .k) less))
           -- refused: the function returns
           (λ not-it. move ! (1 ∷ []) $ settled ! Y.the-row (tyAt (code.function .locals) 5) (λ v b. refl) tally-val (LL.tells Y.the-type Y′.the-laws) t l₅ (λ gt. move ! (1 ∷ []) $
           assigns ! (agg ! (and-then ! (load ! (from ! (stop !)) (look ! 59 refl)) (no-more !))) (from ! (stop !)) (init ! 23 refl (LL.lawful R.the-type R′.the-laws 𝓤 H A W .typed (number (i .k)) _ number-ok .0)) $
@@ -272,7 +276,7 @@ module _ {M : Type 1} (𝓤 : URA M) (H : Heap 𝓤) (A : Atoms 𝓤) (W : Given
           number-ok : Is R.the-row (number (i .k)) (record-val (number (i .k)) ∷ [])
           number-ok = number-is (i .k) (number-fits (length (sheet .now)) (i .k) (room₀ .0) less)
 
-          more-fits : i .k + 1 < 2 ^ 64
+          more-fits : i .k + pace < 2 ^ 64
           more-fits = omega (arith, less, (count-fits (length (sheet .now)) (room₀ .0)))
 
       -- a record is lent to `take`, beside the row and the tally
@@ -319,7 +323,7 @@ module _ {M : Type 1} (𝓤 : URA M) (H : Heap 𝓤) (A : Atoms 𝓤) (W : Given
       assigns ! (of-opd ! (lit ! tt)) (from ! (stop !)) (init ! 58 refl (tt, record { fits = lit< tt })) $ forget ! 44 refl $ forget ! 42 refl $
       move ! (60 ∷ []) $ lendable ! Y.the-row (λ v b. refl) (LL.makes Y.the-type Y′.the-plain 𝓤 H A) t gt $ move ! (1 ∷ []) $
       first ! $ blocks ! $ loops ! 𝓣 Nearer Nearer-wf (At 𝓣 known l₀ l₁ l₂ l₃ l₄ l₅ l₆ l₇ l₈ l₉ l₁₀ l₁₁ l₁₂ l₁₃ l₁₄ l₁₅ l₁₆ l₁₇ l₁₈ l₁₉ l₂₀ l₂₁ l₂₂ l₂₃ l₂₄ l₂₅ l₂₆ l₂₇ l₂₈ l₂₉ l₃₀ l₃₁) (turns 𝓣 known l₀ l₁ l₂ l₃ l₄ l₅ l₆ l₇ l₈ l₉ l₁₀ l₁₁ l₁₂ l₁₃ l₁₄ l₁₅ l₁₆ l₁₇ l₁₈ l₁₉ l₂₀ l₂₁ l₂₂ l₂₃ l₂₄ l₂₅ l₂₆ l₂₇ l₂₈ l₂₉ l₃₀ l₃₁)
-      (record { k = 0; zs = (slots .now); t = t; few = zero-le; same = refl; goes = goes-none (rules .now) (sheet .now) (rowOf (slots .now)) (tallyOf t) e }))))))))))))))))))))))))))))))))))
+      (record { k = literal m.s-5; zs = (slots .now); t = t; few = omega arith; same = refl; goes = goes-none (rules .now) (sheet .now) (rowOf (slots .now)) (tallyOf t) e }))))))))))))))))))))))))))))))))))
 
 module _ {M : Type 1} (𝓤 : URA M) (H : Heap 𝓤) (A : Atoms 𝓤) (W : Given 𝓤 H A) (at-mem : Memory → SProp 𝓤) (run : Routine → Fun 𝓤) where
   walks : (𝓣 : Tables 𝓤 H) → Known 𝓤 H A at-mem run (𝓣 .C) → Walks 𝓤 H A f.ended stayed (WpFn 𝓤 H (𝓣 .C) (𝓣 .Λ) code.function) (f.clauses 𝓤 H A at-mem run)
