@@ -1,6 +1,6 @@
 pub mod Slots
-pub mod Stopped
 pub mod Steps
+pub mod Stopped
 pub mod Runs
 pub mod Mirrors
 pub mod Stops
