@@ -5,9 +5,9 @@ use mathlib.Core.Bool.{Bool}
 use mathlib.Core.List.{List, [], _∷_, append-nil}
 use native.Mathlib.Omega.{arith}
 use lib.Dec.{lit<}
-use lib.ListN.{length, replicate, length-replicate, getD-replicate}
+use lib.ListN.{length, getD, replicate, length-replicate, getD-replicate}
 use Rattle.clause.specs.Clauses.{Literals, none}
-use Rattle.sheet.specs.Editions.{Edition, recordBytes}
+use Rattle.sheet.specs.Editions.{Edition, narrow, lineBytes}
 use Rattle.sheet.specs.Records.{Node, given, Record, node, drop, reads, clause, nodeAt}
 use Rattle.sheet.specs.Fields.{reading, recordAt, sheetBytes, ruleLines, ruleLine}
 use Rattle.sheet.specs.Counts.{nodesOf, stepOf, stepsOf, peakFrom}
@@ -83,3 +83,13 @@ module _ (e : Edition) (rules : List ℕ) (line : HasLine e rules) (n : ℕ) whe
   copies-conclude some =
       ap (λ (s : List Node). clause (nodeAt s (length s - 1))) (nodes-of n (given 0 c))
       ∙ ap clause (getD-replicate n (length (replicate n (given 0 c)) - 1) (given 0 c) (given 0 none) (omega (arith, some, length-replicate n (given 0 c))))
+
+-- there are such tables, as one line with no literal
+pub has-line : HasLine narrow (replicate (lineBytes narrow) 0)
+unfolding ruleLines
+has-line = record { rule-bytes = zeros (lineBytes narrow); whole = refl; few = omega arith; some = omega arith }
+  where
+    zeros : (n i : ℕ) → getD (replicate n 0) i 0 < 256
+    zeros zero i = omega arith
+    zeros (suc n) zero = omega arith
+    zeros (suc n) (suc i) = zeros n i
