@@ -1,7 +1,7 @@
 -- `replay_look::look_from` meets its contract: a walk of its MIR, by hand. It is `run`'s walk with no record refused: the row is opened before the loop and closed after it, and the local tally is lent to each step beside it, with a part of the sheet. With k records passed, what stands is what stands after k of them.
 -- Assumes nothing.
 use mathlib.Core.Path.{_≡_, refl, sym, ap, _∙_}
-use Prim.Native.Nat.{ℕ, zero, suc, _^_, _<_, _≤_, _+_, _-_, _*_, _/_, min, zero-le}
+use Prim.Native.Nat.{ℕ, zero, suc, _^_, _<_, _≤_, _+_, _-_, _*_, _/_, min}
 use mathlib.Core.List.{List, [], _∷_}
 use mathlib.Core.Option.{none, some}
 use lib.ListN.{length, getD}
@@ -40,7 +40,7 @@ use denote.Triple.Walked.{says, Stays, stay-slice, stay-dropped, walkOf, goes-sl
 use denote.Exit.{yes}
 use native.Mathlib.Omega.{arith}
 use native.Mathlib.Nat.{le-antisymm}
-use native.Mathlib.Numerals.{add-one, add-one-le, add-one-dec}
+use native.Mathlib.Numerals.{add-one, add-one-dec}
 use mathlib.Core.WellFounded.{WellFounded, InvImage·wf}
 use lib.WfN.{Nat·lt-wfRel}
 use lib.Dec.{ltb→lt, nltb→le, lit<}
@@ -48,7 +48,7 @@ use borrow.Rule.Slice.PartAt.{part-count}
 use Rattle.lending.proofs.Calls.{call-plain}
 use Rattle.lending.proofs.Leaving.{lays, leaves}
 use Rattle.lending.proofs.Lends.{passed, Tokens, Opened, Closed, opens-with-row, ends-with-row}
-use Rattle.lending.proofs.Locals.{envOf, localsOf, tyAt, past, tail}
+use Rattle.lending.proofs.Locals.{envOf, localsOf, tyAt, past, tail, literal}
 use Rattle.lending.proofs.Parts.{lent-of, lent-val, Lent}
 use Rattle.lending.proofs.Rows.{room-at, lendable, settled}
 use Rattle.sheet.specs.declared.SlotNo.{SlotNo}
@@ -209,6 +209,10 @@ module _ {M : Type 1} (𝓤 : URA M) (H : Heap 𝓤) (A : Atoms 𝓤) (W : Given
         abbrev t₁ : Body′
         t₁ = tail (tail m.turn-1)
 
+        -- how far a turn goes on
+        abbrev pace : ℕ
+        pace = literal (tail (tail (tail (tail (tail (tail (tail (tail (tail (tail (tail t₁)))))))))))
+
         -- after the loop: the slot is looked at
         ends : n ≤ i .k → Is Y.the-row (i .t) (tally-val (i .t) ∷ [])
             → Sq W (‵ (row T.the-row fullShare (i .zs) (slots .b) (slots .o)) ∷ ‵ (fat fullShare (tyAt (code.function .locals) 7) l₇ 0 (tally-val (i .t)))
@@ -251,13 +255,13 @@ module _ {M : Type 1} (𝓤 : URA M) (H : Heap 𝓤) (A : Atoms 𝓤) (W : Given
             forget ! 39 refl $ forget ! 37 refl $ forget ! 29 refl $ forget ! 27 refl $ forget ! 25 refl $ forget ! 23 refl $ forget ! 21 refl $ forget ! 19 refl $ forget ! 17 refl $ forget ! 15 refl $
             rewrite ! 52 (λ (d : ℕ). ‵ (fat fullShare (tyAt (code.function .locals) 3) l₃ 0 (sliceVal (slots .b, slots .o) d))) (sym same) refl $
             again ! Nearer At i
-            (record { k = i .k + 1; zs = zs; t = t; a = r; few = add-one-le less; same = same ∙ i .same; ga = gr; stands = stands-on (rules .now) (sheet .now) s₀ (i .k) (saidOfStep (i .a)) (state (tallyOf (i .t)) (rowOf (i .zs))) (saidOfStep r) (state (tallyOf t) (rowOf zs)) (i .stands) e })
+            (record { k = i .k + pace; zs = zs; t = t; a = r; few = omega (arith, less); same = same ∙ i .same; ga = gr; stands = stands-on (rules .now) (sheet .now) s₀ (i .k) (saidOfStep (i .a)) (state (tallyOf (i .t)) (rowOf (i .zs))) (saidOfStep r) (state (tallyOf t) (rowOf zs)) (i .stands) e })
             (add-one-dec n (i .k) less))
           where
             inside : i .k < length (sheet .now) / recordBytes narrow
             inside = omega (arith, less, en)
 
-            next-fits : i .k + 1 < 2 ^ 64
+            next-fits : i .k + pace < 2 ^ 64
             next-fits = omega (arith, inside, (count-fits (length (sheet .now)) (room₀ .0)))
 
         turns : Sq W (At i) (runs (𝓣 .C) (𝓣 .Λ) En m.turn-1 (anyQ (Turned i)))
@@ -294,7 +298,7 @@ module _ {M : Type 1} (𝓤 : URA M) (H : Heap 𝓤) (A : Atoms 𝓤) (W : Given
       assigns ! (of-opd ! (lit ! tt)) (from ! (stop !)) (init ! 40 refl (tt, record { fits = lit< tt })) $ forget ! 34 refl $ forget ! 32 refl $
       move ! (44 ∷ []) $ lendable ! Y.the-row (λ v b. refl) (LL.makes Y.the-type Y′.the-plain 𝓤 H A) t gt $ move ! (1 ∷ []) $
       first ! $ blocks ! $ loops ! 𝓣 (Nearer n en) (Nearer-wf n en) (At n en 𝓣 known l₀ l₁ l₂ l₃ l₄ l₅ l₆ l₇ l₈ l₉ l₁₀ l₁₁ l₁₂ l₁₃ l₁₄ l₁₅ l₁₆ l₁₇ l₁₈ l₁₉ l₂₀ l₂₁ l₂₂ l₂₃ l₂₄ l₂₅) (turns n en 𝓣 known l₀ l₁ l₂ l₃ l₄ l₅ l₆ l₇ l₈ l₉ l₁₀ l₁₁ l₁₂ l₁₃ l₁₄ l₁₅ l₁₆ l₁₇ l₁₈ l₁₉ l₂₀ l₂₁ l₂₂ l₂₃ l₂₄ l₂₅)
-      (record { k = 0; zs = (slots .now); t = t; a = a; few = zero-le; same = refl; ga = ga; stands = λ i. stepped (e-a i) (state (e i) (rowOf (slots .now))) }))))))))))))))))))))))))))))))
+      (record { k = literal m.s-6; zs = (slots .now); t = t; a = a; few = omega arith; same = refl; ga = ga; stands = λ i. stepped (e-a i) (state (e i) (rowOf (slots .now))) }))))))))))))))))))))))))))))))
 
 module _ {M : Type 1} (𝓤 : URA M) (H : Heap 𝓤) (A : Atoms 𝓤) (W : Given 𝓤 H A) (at-mem : Memory → SProp 𝓤) (run : Routine → Fun 𝓤) where
   walks : (𝓣 : Tables 𝓤 H) → Known 𝓤 H A at-mem run (𝓣 .C) → Walks 𝓤 H A f.ended stayed (WpFn 𝓤 H (𝓣 .C) (𝓣 .Λ) code.function) (f.clauses 𝓤 H A at-mem run)
