@@ -80,28 +80,62 @@ fn replay(side: Side, sheet: &Sheet, calls: u64) {
 pub fn calls(side: &str, job: &str, name: &str, calls: u64) -> Option<()> {
     let (side, _) = SIDES.into_iter().find(|(_, word)| *word == side)?;
     let (job, _) = JOBS.into_iter().find(|(_, word)| *word == job)?;
-    let sheet = sheets::all().into_iter().find(|sheet| sheet.name == name)?;
-    call(side, job, &sheet, calls);
+    call(side, job, &sheets::named(name)?, calls);
     Some(())
 }
 
 /// The tables, line by line.
 pub fn tables(print: impl Fn(&str)) {
     let sheets = sheets::all();
+    let growing = sheets::growing();
     print(&heading("ns"));
     for (job, word) in JOBS {
         for sheet in &sheets {
             print(&line(word, sheet, nanoseconds(job, sheet)));
         }
     }
+    growth(&print, "ns", &growing, |sheet| {
+        nanoseconds(Job::Press, sheet)[0]
+    });
     if Command::new("valgrind").arg("--version").output().is_err() {
         return print("no valgrind here, so no instructions are counted");
     }
     print(&heading("instr."));
     for (_, word) in JOBS {
         for sheet in &sheets {
-            let counts = SIDES.map(|(_, side)| instructions(side, word, sheet.name));
+            let counts = SIDES.map(|(_, side)| instructions(side, word, &sheet.name));
             print(&line(word, sheet, counts));
+        }
+    }
+    growth(&print, "instr.", &growing, |sheet| {
+        instructions("library", "press", &sheet.name)
+    });
+}
+
+/// What the library's press of a shape takes at each size: in all, for each
+/// record, and how often the size before it, which is half of it.
+fn growth(
+    print: impl Fn(&str),
+    unit: &str,
+    growing: &[Vec<Sheet>],
+    measure: impl Fn(&Sheet) -> f64,
+) {
+    print(&format!(
+        "{unit:7} {:12} {:>4} {:>14} {:>11} {:>6}",
+        "growth", "in", "library", "per record", "times"
+    ));
+    for shape in growing {
+        let mut before = None;
+        for sheet in shape {
+            let taken = measure(sheet);
+            let each = taken / sheet.records() as f64;
+            let times = before.map_or(String::new(), |before| format!("{:.2}", taken / before));
+            print(&format!(
+                "press   {:12} {:>4} {taken:>14.0} {each:>11.0} {times:>6}",
+                sheet.name,
+                sheet.records()
+            ));
+            before = Some(taken);
         }
     }
 }

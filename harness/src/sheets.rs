@@ -10,7 +10,7 @@ use reference::sheets::starred;
 
 /// A sheet, its rule table, and what the second program makes of it.
 pub struct Sheet {
-    pub name: &'static str,
+    pub name: String,
     pub sheet: Vec<u8>,
     pub rules: Vec<u8>,
     pub out: Vec<u8>,
@@ -18,13 +18,13 @@ pub struct Sheet {
 }
 
 impl Sheet {
-    fn new(name: &'static str, (sheet, rules): (Vec<u8>, Vec<u8>)) -> Sheet {
+    fn new(name: &str, (sheet, rules): (Vec<u8>, Vec<u8>)) -> Sheet {
         let mut out = vec![0; room_needed(sheet.len() / RECORD)];
         let mut marks = vec![0; rules.len() / LINE];
         let pressed = press(&sheet, &rules, &mut out, &mut marks).expect("the sheets are good");
         out.truncate(pressed.records * RECORD);
         Sheet {
-            name,
+            name: name.to_string(),
             sheet,
             rules,
             out,
@@ -32,7 +32,7 @@ impl Sheet {
         }
     }
 
-    fn of(name: &'static str, draft: &Draft) -> Sheet {
+    fn of(name: &str, draft: &Draft) -> Sheet {
         Sheet::new(name, (draft.sheet(), draft.rule_table()))
     }
 
@@ -41,20 +41,51 @@ impl Sheet {
     }
 }
 
-/// All of them, by name.
-pub fn all() -> [Sheet; 5] {
-    [
-        Sheet::new("pair", starred::pair().bytes()),
-        Sheet::of("shallow", &tree(8)),
-        Sheet::new("deep", starred::deep().bytes()),
-        Sheet::of("chain", &chain()),
-        Sheet::of("shared", &lattice(&mut Rng::new(1, 1), PRESS_RECORDS)),
-    ]
+/// A draft of up to so many records, and of nearly as many.
+type Shape = fn(usize) -> Draft;
+
+const SHAPES: [(&str, Shape); 5] = [
+    ("shallow", shallow),
+    ("deep", deep),
+    ("chain", chain),
+    ("shared", |size| lattice(&mut Rng::new(1, 1), size)),
+    ("held", held),
+];
+
+/// The one of this name: a small one, or a shape, as `shared-64` at a size, or
+/// as long as a sheet can be.
+pub fn named(name: &str) -> Option<Sheet> {
+    if name == "pair" {
+        return Some(Sheet::new(name, starred::pair().bytes()));
+    }
+    let (word, size) = match name.split_once('-') {
+        Some((word, size)) => (word, size.parse().ok()?),
+        None => (name, PRESS_RECORDS),
+    };
+    let (_, shape) = SHAPES.into_iter().find(|(known, _)| *known == word)?;
+    Some(Sheet::of(name, &shape(size)))
 }
 
-/// A tree of this many levels: the leaves are all clauses over as many
-/// variables, and level v resolves variable v away.
-fn tree(levels: u8) -> Draft {
+/// The small one, and one of each shape.
+pub fn all() -> Vec<Sheet> {
+    let shapes = SHAPES.iter().map(|(name, _)| *name);
+    ["pair"].into_iter().chain(shapes).flat_map(named).collect()
+}
+
+/// Each shape at four sizes, of which each is twice the one before it.
+pub fn growing() -> Vec<Vec<Sheet>> {
+    let sizes = [8, 4, 2, 1].map(|part| PRESS_RECORDS / part);
+    let at = |name: &str| sizes.map(|size| format!("{name}-{size}"));
+    let shapes = SHAPES.iter().map(|(name, _)| at(name));
+    shapes
+        .map(|names| names.iter().flat_map(|name| named(name)).collect())
+        .collect()
+}
+
+/// A tree: the leaves are all clauses over as many variables as it has levels,
+/// and level v resolves variable v away.
+fn shallow(size: usize) -> Draft {
+    let levels = (size + 1).ilog2() as u8 - 1;
     let mut draft = Draft::default();
     let mut rng = Rng::new(0, 0);
     let leaf = |signs: u32| {
@@ -75,18 +106,54 @@ fn tree(levels: u8) -> Draft {
     draft
 }
 
+/// A draft that begins with a clause of so many variables, each both ways.
+fn both_ways(variables: u8) -> Draft {
+    let mut draft = Draft::default();
+    let literals = |v| [Literal::Plus(v), Literal::Minus(v)];
+    draft.give(
+        &mut Rng::new(0, 0),
+        (0..variables).flat_map(literals).collect(),
+    );
+    draft
+}
+
+/// A clause resolved with itself again and again: as deep as a sheet can be.
+fn deep(size: usize) -> Draft {
+    let mut draft = both_ways(1);
+    for node in 0..size - 1 {
+        draft.resolve(0, node, node);
+    }
+    draft
+}
+
 /// {+0} and {-0,+1} make {+1}, which makes {+0} with {-1,+0}, and so on: deep,
 /// and nearly all of it is cut.
-fn chain() -> Draft {
+fn chain(size: usize) -> Draft {
     let mut draft = Draft::default();
     let mut rng = Rng::new(0, 0);
     let mut last = draft.give(&mut rng, [Literal::Plus(0)].into_iter().collect());
-    for turn in 0..(PRESS_RECORDS - 1) / 2 {
+    for turn in 0..(size - 1) / 2 {
         let (pivot, next) = if turn % 2 == 0 { (0, 1) } else { (1, 0) };
         let literals = [Literal::Minus(pivot), Literal::Plus(next)];
         let other: Clause = literals.into_iter().collect();
         let other = draft.give(&mut rng, other);
         last = draft.resolve(pivot, last, other);
+    }
+    draft
+}
+
+/// Nodes that are used again, last made first: a third of them are held at
+/// once, the first one from the start to the end.
+fn held(size: usize) -> Draft {
+    let count = (size + 2) / 3;
+    let mut draft = both_ways(2);
+    for node in 0..count - 1 {
+        draft.resolve(0, node, node);
+    }
+    let mut last = count - 1;
+    for node in (0..count - 1).rev() {
+        let one = draft.resolve(0, last, node);
+        last = draft.resolve(1, one, one);
     }
     draft
 }
