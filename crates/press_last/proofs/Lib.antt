@@ -1,0 +1,5 @@
+pub mod LastUses
+pub mod Joined
+pub mod Noting
+pub mod Peaks
+pub mod Peaking

@@ -1,0 +1,2 @@
+pub mod LastUses
+pub mod Peaks
