@@ -1,10 +1,9 @@
 -- Room for the records that are still to come, and what the turn at a node, with its drops, makes of it.
 use mathlib.Core.Path.{_≡_, refl, sym, ap, _∙_}
 use mathlib.Core.Bool.{true, false}
-use mathlib.Core.List.{List, [], _∷_, _++_, append-nil}
+use mathlib.Core.List.{List, [], _∷_, _++_}
 use Prim.Native.Nat.{ℕ, zero, suc, _+_, _*_, _<_, _≤_, min, max}
 use native.Mathlib.Omega.{arith}
-use borrow.Author.Tests.{eq-eqb, ne-eqb}
 use lib.ListN.{length, length-append, drop-of-length-le}
 use lib.ListN.{drop as after}
 use Rattle.base.proofs.Bytes.{length-put}
@@ -13,11 +12,11 @@ use Rattle.sheet.specs.Records.{Node, given, step, Record, node, drop, nodeAt}
 use Rattle.sheet.specs.Fields.{recordBytesOf}
 use Rattle.sheet.specs.Counts.{stepOf}
 use Rattle.sheet.proofs.RecordBytes.{length-recordBytesOf}
-use Rattle.press_spec.specs.Links.{Link, leaf, join, link, links}
-use Rattle.press_spec.specs.Drops.{dropLast, dropsAfter, withDrops}
-use Rattle.press_spec.proofs.Nodes.{nodes-from}
-use Rattle.press_spec.proofs.Playing.{usedIn}
-use Rattle.press_spec.proofs.Drops.{dropLast-used, dropLast-unused}
+use Rattle.press_spec.specs.Links.{leaf, link, links, linkAt}
+use Rattle.press_spec.specs.Drops.{dropsAfter, withDrops}
+use Rattle.press_spec.proofs.Nodes.{nodes-from, link-at}
+use Rattle.press_last.specs.LastUses.{usedAfter, dropBy}
+use Rattle.press_last.proofs.Joined.{Joined, joined-inside, drops-same, drops-two}
 use Rattle.press_emit.specs.Emission.{Emission, emitRecord, emitAll, Roomy}
 use Rattle.tally.specs.Tally.{counted}
 use Rattle.press_drops.specs.Turns.{recordsAt}
@@ -67,17 +66,18 @@ roomy-rest (x ∷ xs) ys e h = roomy-rest xs ys (emitRecord x e) (roomy-next x (
 
 -- ---- the drop of n, or none
 
-module _ (later : List Link) (n : ℕ) (e : Emission) where
-  pub last-kept : true ≡ usedIn later n → e ≡ emitAll (dropLast later n) e
-  unfolding emitAll
-  last-kept h = rw (dropLast-used later n (sym h))
+module _ (last : List ℕ) (k n : ℕ) (e : Emission) where
+  pub last-kept : true ≡ usedAfter last k n → e ≡ emitAll (dropBy last k n) e
+  unfolding emitAll dropBy
+  last-kept h = rw (← h)
 
-  pub last-dropped : false ≡ usedIn later n → emitRecord (drop n) e ≡ emitAll (dropLast later n) e
-  unfolding emitAll
-  last-dropped h = rw (dropLast-unused later n (sym h))
+  pub last-dropped : false ≡ usedAfter last k n → emitRecord (drop n) e ≡ emitAll (dropBy last k n) e
+  unfolding emitAll dropBy
+  last-dropped h = rw (← h)
 
-  pub last-room : false ≡ usedIn later n → Roomy (dropLast later n) e → Roomy (drop n ∷ []) e
-  last-room h r = rw (dropLast-unused later n (sym h)) at r
+  pub last-room : false ≡ usedAfter last k n → Roomy (dropBy last k n) e → Roomy (drop n ∷ []) e
+  unfolding dropBy
+  last-room h r = rw (← h) at r
 
 -- ---- a node and its drops
 
@@ -91,57 +91,52 @@ module _ (s : List Node) (k : ℕ) (e : Emission) where
   turn-leaf line q = rw q
 
 -- node k is a step of l and r, there is room for it and its drops, and it is emitted
-pub record Stepped (s : List Node) (t : List Link) (k : ℕ) (e e₁ : Emission) (l r : ℕ) : Type 0 where
-  pub pivot : ℕ
-  pub is : link (nodeAt s k) ≡ join pivot l r
-  pub linked : links s ≡ t
+pub record Stepped (s : List Node) (last : List ℕ) (k : ℕ) (e e₁ : Emission) (l r : ℕ) : Type 0 where
+  pub joined : Joined (links s) last k l r
   pub room : Roomy (recordsAt s k) e
   pub first : e₁ ≡ emitRecord (node (nodeAt s k)) e
 
-module _ {s : List Node} {t : List Link} {k : ℕ} {e e₁ : Emission} {l r : ℕ} (d : Stepped s t k e e₁ l r) where
-  abbrev later : List Link
-  later = after (k + 1) t
-
+module _ {s : List Node} {last : List ℕ} {k : ℕ} {e e₁ : Emission} {l r : ℕ} (d : Stepped s last k e e₁ l r) where
   abbrev drops : List Record
-  drops = dropsAfter (link (nodeAt s k)) later
+  drops = dropsAfter (linkAt (links s) k) (after (k + 1) (links s))
 
   drops-room : Roomy drops e₁
   unfolding recordsAt
-  drops-room = rw (d .first) (roomy-next (node (nodeAt s k)) drops e (rw (d .linked) at (d .room)))
+  drops-room = rw (d .first, link-at s k) (roomy-next (node (nodeAt s k)) _ e (d .room))
 
   whole : emitAll drops e₁ ≡ emitAll (recordsAt s k) e
   unfolding recordsAt emitAll
-  whole = rw (d .linked) (ap (emitAll drops) (d .first))
+  whole = rw (link-at s k, d .first)
 
-  drops-same : l ≡ r → drops ≡ dropLast later l ++ []
-  unfolding dropsAfter
-  drops-same q = let low : min l r ≡ l = omega arith in rw (d .is, eq-eqb l r q, low)
+  pub same-room : l ≡ r → Roomy (dropBy last k l) e₁
+  same-room q = rw (drops-same (d .joined) q) at drops-room
 
-  pub same-room : l ≡ r → Roomy (dropLast later l) e₁
-  same-room q = roomy-first (dropLast later l) [] e₁ (rw (drops-same q) at drops-room)
-
-  pub turn-same : {e₂ : Emission} → l ≡ r → e₂ ≡ emitAll (dropLast later l) e₁ → e₂ ≡ emitAll (recordsAt s k) e
-  turn-same q z =
-      z ∙ ap (λ (rs : List Record). emitAll rs e₁) (sym (append-nil (dropLast later l)) ∙ sym (drops-same q)) ∙ whole
+  pub turn-same : {e₂ : Emission} → l ≡ r → e₂ ≡ emitAll (dropBy last k l) e₁ → e₂ ≡ emitAll (recordsAt s k) e
+  turn-same q z = z ∙ rw (← drops-same (d .joined) q) whole
 
   module _ {low high : ℕ} (q : l ≡ r → ⊥) (lo : low ≡ min l r) (hi : high ≡ max l r) where
-    drops-two : drops ≡ dropLast later low ++ dropLast later high
-    unfolding dropsAfter
-    drops-two = rw (d .is, ne-eqb l r q, lo, hi)
+    pub low-inside : low < length last
+    low-inside = omega (arith, joined-inside (d .joined))
 
-    pub low-room : Roomy (dropLast later low) e₁
-    low-room = roomy-first (dropLast later low) (dropLast later high) e₁ (rw drops-two at drops-room)
+    pub high-inside : high < length last
+    high-inside = omega (arith, joined-inside (d .joined))
 
-    module _ {e₂ : Emission} (second : e₂ ≡ emitAll (dropLast later low) e₁) where
-      pub high-room : Roomy (dropLast later high) e₂
-      high-room = rw second (roomy-rest (dropLast later low) (dropLast later high) e₁ (rw drops-two at drops-room))
+    two : drops ≡ dropBy last k low ++ dropBy last k high
+    two = rw (lo, hi) (drops-two (d .joined) q)
 
-      pub turn-two : {e₃ : Emission} → e₃ ≡ emitAll (dropLast later high) e₂ → e₃ ≡ emitAll (recordsAt s k) e
+    pub low-room : Roomy (dropBy last k low) e₁
+    low-room = roomy-first (dropBy last k low) (dropBy last k high) e₁ (rw two at drops-room)
+
+    module _ {e₂ : Emission} (second : e₂ ≡ emitAll (dropBy last k low) e₁) where
+      pub high-room : Roomy (dropBy last k high) e₂
+      high-room = rw second (roomy-rest (dropBy last k low) (dropBy last k high) e₁ (rw two at drops-room))
+
+      pub turn-two : {e₃ : Emission} → e₃ ≡ emitAll (dropBy last k high) e₂ → e₃ ≡ emitAll (recordsAt s k) e
       turn-two z =
           z
-          ∙ ap (emitAll (dropLast later high)) second
-          ∙ sym (emitAll-append (dropLast later low) (dropLast later high) e₁)
-          ∙ ap (λ (rs : List Record). emitAll rs e₁) (sym drops-two)
+          ∙ ap (emitAll (dropBy last k high)) second
+          ∙ sym (emitAll-append (dropBy last k low) (dropBy last k high) e₁)
+          ∙ ap (λ (rs : List Record). emitAll rs e₁) (sym two)
           ∙ whole
 
 -- ---- the loop: what is left to emit

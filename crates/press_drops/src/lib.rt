@@ -1,14 +1,11 @@
 // 6. Drops: "Right after the record that uses a node last comes its drop; two drops go by rising number in the pressed sheet. The sink is
 // never dropped."
 ghost use mathlib.Core.Path.{_≡_};
-ghost use mathlib.Core.Bool.{not};
-ghost use Prim.Native.Nat.{_<_, min, max, _+_};
-ghost use lib.Dec.{eqb};
-ghost use lib.ListN.{length, drop as after};
-ghost use Rattle.press_spec.specs.Links.{linkAt};
-ghost use Rattle.press_spec.specs.Trim.{usesIn, uses};
-ghost use Rattle.press_spec.specs.Drops.{dropLast, withDrops};
-ghost use Rattle.press_nodes.specs.Tables.{linksIn, nodesIn, Links, Nodes};
+ghost use Prim.Native.Nat.{_<_, min, max};
+ghost use lib.ListN.{length};
+ghost use Rattle.press_spec.specs.Drops.{withDrops};
+ghost use Rattle.press_nodes.specs.Tables.{linksIn, nodesIn, Nodes};
+ghost use Rattle.press_last.specs.LastUses.{lastUses, dropBy};
 ghost use Rattle.press_emit.specs.Emission.{emissionOf, unwritten, emitAll, Roomy};
 ghost use Rattle.press_drops.specs.Turns.{recordsAt};
 use press_emit::Emitted;
@@ -17,54 +14,31 @@ use press_nodes::link::Link;
 use press_nodes::node;
 use sheet::NodeNo;
 use sheet::Record;
+use sheet::limits::CAPACITY;
 
-// Whether node m names n.
-fn names(links: &[u64], m: NodeNo, n: NodeNo) -> bool
-    requires { ⌜ Links (now links) ⌝ }
-    requires { ⌜ m .0 < length (now links) ⌝ }
-    ensures { λ b. ⌜ b ≡ not (eqb (usesIn (n .0) (linkAt (linksIn (now (links .entry))) (m .0))) 0) ⌝ }
+// The drop of n, which node k names, unless a later node names it.
+fn emit_last(last: &[u16], k: NodeNo, n: NodeNo, out: &mut [u8], e: Emitted) -> Emitted
+    requires { ⌜ n .0 < length (now last) ⌝ }
+    requires { ⌜ Roomy (dropBy (now last) (k .0) (n .0)) (emissionOf (now out) e) ⌝ }
+    ensures { λ f. ⌜ emissionOf (now (out .exit)) f ≡ emitAll (dropBy (now (last .entry)) (k .0) (n .0)) (emissionOf (now (out .entry)) e) ⌝ }
 {
-    let found = link::link_at(links, m);
-    let Link::Join { left, right, .. } = found else {
-        return false;
-    };
-    if n.0 == left.0 {
-        return true;
-    }
-    n.0 == right.0
-}
-
-// Whether a node from `from` on names n.
-fn named_from(links: &[u64], from: usize, n: NodeNo) -> bool
-    requires { ⌜ Links (now links) ⌝ }
-    ensures { λ b. ⌜ b ≡ not (eqb (uses (after from (linksIn (now (links .entry)))) (n .0)) 0) ⌝ }
-{
-    let mut m = from;
-    while m < links.len() {
-        if names(links, NodeNo(m as u16), n) {
-            return true;
-        }
-        m += 1;
-    }
-    false
-}
-
-// The drop of n, unless a node from `from` on names it.
-fn emit_last(links: &[u64], from: usize, n: NodeNo, out: &mut [u8], e: Emitted) -> Emitted
-    requires { ⌜ Links (now links) ⌝ }
-    requires { ⌜ Roomy (dropLast (after from (linksIn (now links))) (n .0)) (emissionOf (now out) e) ⌝ }
-    ensures { λ f. ⌜ emissionOf (now (out .exit)) f ≡ emitAll (dropLast (after from (linksIn (now (links .entry)))) (n .0)) (emissionOf (now (out .entry)) e) ⌝ }
-{
-    if named_from(links, from, n) {
+    if press_last::used_after(last, k, n) {
         return e;
     }
     press_emit::emit_record(out, e, Record::Drop(n))
 }
 
 // Node k, and the drops of what it names last: two of them by rising number.
-fn emit_turn(links: &[u64], clauses: &[u64], k: NodeNo, out: &mut [u8], e: Emitted) -> Emitted
+fn emit_turn(
+    links: &[u64],
+    clauses: &[u64],
+    last: &[u16],
+    k: NodeNo,
+    out: &mut [u8],
+    e: Emitted,
+) -> Emitted
     requires { ⌜ Nodes (now links) (now clauses) ⌝ }
-    requires { ⌜ k .0 < length (now links) ⌝ }
+    requires { ⌜ (k .0 < length (now links)) × (now last ≡ lastUses (linksIn (now links))) ⌝ }
     requires { ⌜ Roomy (recordsAt (nodesIn (now links) (now clauses)) (k .0)) (emissionOf (now out) e) ⌝ }
     ensures { λ f. ⌜ emissionOf (now (out .exit)) f ≡ emitAll (recordsAt (nodesIn (now (links .entry)) (now (clauses .entry))) (k .0)) (emissionOf (now (out .entry)) e) ⌝ }
 {
@@ -74,14 +48,13 @@ fn emit_turn(links: &[u64], clauses: &[u64], k: NodeNo, out: &mut [u8], e: Emitt
     let Link::Join { left, right, .. } = found else {
         return with_node;
     };
-    let from = k.index() + 1;
     if left.0 == right.0 {
-        return emit_last(links, from, left, out, with_node);
+        return emit_last(last, k, left, out, with_node);
     }
     let low = lower(left, right);
     let high = higher(left, right);
-    let with_low = emit_last(links, from, low, out, with_node);
-    emit_last(links, from, high, out, with_low)
+    let with_low = emit_last(last, k, low, out, with_node);
+    emit_last(last, k, high, out, with_low)
 }
 
 fn lower(left: NodeNo, right: NodeNo) -> NodeNo
@@ -96,20 +69,33 @@ fn higher(left: NodeNo, right: NodeNo) -> NodeNo
     if left.0 < right.0 { right } else { left }
 }
 
-// Every node in order, with the drops after it.
-pub fn emit_records(links: &[u64], clauses: &[u64], out: &mut [u8]) -> Emitted
+// Fills the table of last uses, which is lent; then each node and the drops after it.
+fn emit_with(links: &[u64], clauses: &[u64], last: &mut [u16], out: &mut [u8]) -> Emitted
     requires { ⌜ Nodes (now links) (now clauses) ⌝ }
+    requires { ⌜ length (now last) ≡ length (now links) ⌝ }
     requires { ⌜ Roomy (withDrops (nodesIn (now links) (now clauses))) (unwritten (now out)) ⌝ }
     ensures { λ f. ⌜ emissionOf (now (out .exit)) f ≡ emitAll (withDrops (nodesIn (now (links .entry)) (now (clauses .entry)))) (unwritten (now (out .entry))) ⌝ }
 {
+    press_last::last_uses(links, last);
     let mut e = Emitted {
         records: 0,
         tally: tally::nothing(),
     };
     let mut k = 0;
     while k < links.len() {
-        e = emit_turn(links, clauses, NodeNo(k as u16), out, e);
+        e = emit_turn(links, clauses, last, NodeNo(k as u16), out, e);
         k += 1;
     }
     e
+}
+
+// Every node in order, with the drops after it.
+pub fn emit_records(links: &[u64], clauses: &[u64], out: &mut [u8]) -> Emitted
+    requires { ⌜ Nodes (now links) (now clauses) ⌝ }
+    requires { ⌜ Roomy (withDrops (nodesIn (now links) (now clauses))) (unwritten (now out)) ⌝ }
+    ensures { λ f. ⌜ emissionOf (now (out .exit)) f ≡ emitAll (withDrops (nodesIn (now (links .entry)) (now (clauses .entry)))) (unwritten (now (out .entry))) ⌝ }
+{
+    let n = links.len();
+    let mut last = [0u16; CAPACITY];
+    emit_with(links, clauses, &mut last[..n], out)
 }

@@ -1,86 +1,27 @@
-use mathlib.Core.Path.{_≡_, refl, sym, ap, subst, _∙_}
-use Prim.Native.Nat.{_+_, _-_, _<_, _≤_}
-use native.Mathlib.Omega.{arith}
+use mathlib.Core.Path.{sym}
 use lib.ListN.{length}
-use lib.ListN.{drop as after}
-use Rattle.tally.specs.Tally.{Tally}
-use Rattle.press_spec.specs.Drops.{withDrops}
-use Rattle.press_nodes.specs.Tables.{nodesIn}
-use Rattle.press_emit.specs.Emission.{Emission, emission, emissionOf, unwritten, emitAll, Roomy}
-use Rattle.press_nodes.proofs.Tables.{nodes-length}
-use Rattle.press_drops.proofs.Rooms.{emit-room, emit-room-left, emit-on, emit-done}
+use Rattle.sheet.specs.Editions.{capacity}
+use Rattle.press_nodes.proofs.Lent.{lent-long}
 use borrow.Author.Needs.{needs}
 use Rattle.press_drops.proofs.emit_records.Statement.{statement}
 use Rattle.press_drops.proofs.emit_records.Tie as tie
 
-abbrev Inv-loop : tie.InvT-loop
-Inv-loop links clauses out₀ e₀ k₀ out e k = (k ≤ length links)
-    × (length out ≡ length out₀)
-    × Roomy (withDrops (after k (nodesIn links clauses))) (emissionOf out e)
-    × (emitAll (withDrops (after k (nodesIn links clauses))) (emissionOf out e) ≡ emitAll (withDrops (nodesIn links clauses)) (unwritten out₀))
+array-borrow-prefix-last : tie.Need-array-borrow-prefix-last
+array-borrow-prefix-last c = search needs
 
-abbrev μ-loop : tie.MeasureT-loop
-μ-loop links clauses out₀ e₀ k₀ out e k = length links - k
+slice-aggregate-emit-with : tie.Need-slice-aggregate-emit-with
+slice-aggregate-emit-with c = let s = c .before .before .before .before in sym (lent-long capacity (length (s .args .links .now)) (s .pre .0 .linked .few))
 
-nothing-requires : tie.Need-nothing-requires Inv-loop μ-loop
-nothing-requires c κs = search needs
+emit-with-requires : tie.Need-emit-with-requires
+emit-with-requires c κs = let s = c .before .before .before .before .before in (s .pre .0, (lent-long capacity (length (s .args .links .now)) (s .pre .0 .linked .few), s .pre .1))
 
-loop-holds : tie.Need-loop-holds Inv-loop μ-loop
-loop-holds c = let a = c .before .before .before .before .args in
-    let none = ap (λ (t : Tally). emission (a .out .now) 0 t) (sym (c .nothing .ensures)) in
-    let rs = withDrops (nodesIn (a .links .now) (a .clauses .now)) in
-    (omega arith, refl, subst (Roomy rs) none (c .before .before .before .before .pre .1), sym (ap (emitAll rs) none))
-
-cast-t9 : tie.Need-cast-t9 Inv-loop μ-loop
-cast-t9 c = search needs
-
-emit-turn-requires : tie.Need-emit-turn-requires Inv-loop μ-loop
-emit-turn-requires c κs = let a = c .before .before .before .before .before .before .before .args in
-    let l = c .before .before .loop in
-    let s = nodesIn (a .links .now) (a .clauses .now) in
-    let h : l .k < length s = rw (nodes-length (a .links .now) (a .clauses .now)) (omega arith) in
-    (c .before .before .before .before .before .before .before .pre .0, (omega arith, emit-room s (l .k) h (emissionOf (l .out) (l .e)) (l .inv .2)))
-
-add-k : tie.Need-add-k Inv-loop μ-loop
-add-k c = search needs
-
-loop-less : tie.Need-loop-less Inv-loop μ-loop
-loop-less c = search needs
-
-loop-again : tie.Need-loop-again Inv-loop μ-loop
-loop-again c = let a = c .before .before .before .before .before .before .before .before .before .before .args in
-    let l = c .before .before .before .before .before .loop in
-    let t = c .before .before .emit-turn in
-    let s = nodesIn (a .links .now) (a .clauses .now) in
-    let e = emissionOf (l .out) (l .e) in
-    let h : l .k < length s = rw (nodes-length (a .links .now) (a .clauses .now)) (omega arith) in (
-      omega arith,
-      t .kept .1 .1 .1 .0 ∙ l .inv .1,
-      subst (λ (f : Emission). Roomy (withDrops (after (l .k + 1) s)) f) (sym (t .ensures)) (emit-room-left s (l .k) h e (l .inv .2)),
-      ap (emitAll (withDrops (after (l .k + 1) s))) (t .ensures) ∙ emit-on s (l .k) h e ∙ l .inv .3,
-    )
-
-same-length : tie.Need-same-length Inv-loop μ-loop
+same-length : tie.Need-same-length
 same-length c = search needs
 
-returns : tie.Need-returns Inv-loop μ-loop
-returns c = let a = c .before .before .before .before .before .before .args in
-    let l = c .before .loop in
-    sym (emit-done (nodesIn (a .links .now) (a .clauses .now)) (l .k) (rw (nodes-length (a .links .now) (a .clauses .now)) (omega arith)) (emissionOf (l .out) (l .e)))
-    ∙ l .inv .3
+returns : tie.Need-returns
+returns c = search needs
 
 pub emit-records-spec : {M : Type 1} → statement M
 emit-records-spec =
     tie.close
-    (tie.spec
-    Inv-loop
-    μ-loop
-    nothing-requires
-    loop-holds
-    cast-t9
-    emit-turn-requires
-    add-k
-    loop-less
-    loop-again
-    same-length
-    returns)
+    (tie.spec array-borrow-prefix-last slice-aggregate-emit-with emit-with-requires same-length returns)
