@@ -112,6 +112,10 @@ pub fn telling() -> String {
             "a set carried into a node of two uses would cut it",
             shared_reset(),
         ),
+        (
+            "the conclusion holds the last pivot both ways: -p is tried first",
+            either_way(),
+        ),
     ];
     for (why, worked) in &told {
         page += &records_of(why, worked.name, &worked.records);

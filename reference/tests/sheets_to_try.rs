@@ -85,11 +85,11 @@ fn irregular_loses_two_steps() {
 }
 
 #[test]
-fn twice_is_dropped_once() {
+fn the_step_of_twice_is_cut() {
     let (input, rules) = twice().bytes();
     let done = press_ok(&input, &rules);
-    assert_eq!(done.out, [input, sheet(&[dropped(0)])].concat());
-    assert_eq!((done.pressed.records, done.pressed.peak), (3, 2));
+    assert_eq!(done.out, sheet(&[given(0, "+0 -0")]));
+    assert_eq!((done.pressed.records, done.pressed.peak), (1, 1));
     assert_eq!((done.pressed.positive, done.pressed.negative), (1, 1));
 }
 

@@ -9,6 +9,7 @@ use reference::passes::rebuild::Why;
 use reference::passes::recycle::Edge;
 use reference::press::{read_proof, run_passes, Passes};
 use reference::proof::{Node, Proof};
+use reference::record::Record;
 
 fn passes_of(worked: &Worked) -> Passes {
     run_passes(read_proof(&worked.sheet(), &worked.table()).unwrap())
@@ -70,39 +71,47 @@ fn no_step_is_rebuilt_without_its_pivot() {
 /// on, so that the next step on the same pivot is cut as well.
 #[test]
 fn a_cut_step_hands_its_s_on() {
-    let left = chain([(0, 1), (2, 3), (4, 5)]);
-    let right = chain([(0, 1), (3, 2), (5, 4)]);
-    let kept = [(left, Edge::Right, "+0", 0), (right, Edge::Left, "-0", 1)];
-    for (chain, edge, s, stand_in) in kept {
-        let passes = passes_of(&chain);
-        for number in [2, 4] {
-            assert_eq!(passes.visits[&number].cut, Some(edge));
-            assert_eq!(passes.visits[&number].s, clause(s));
-            assert_eq!(passes.rebuilt.stand_ins[&number], stand_in);
-        }
-        assert_eq!(passes.pressed.nodes.len(), 3);
+    let passes = passes_of(&hands_on());
+    for number in [4, 3] {
+        assert_eq!(passes.visits[&number].cut, Some(Edge::Right));
+        assert_eq!(passes.visits[&number].s, clause("+0 +1"));
+        assert_eq!(passes.rebuilt.stand_ins[&number], 1);
     }
+    assert_eq!(passes.records, [given(1, "+0 +1")]);
 }
 
-/// "Cuts don't lower uses": node 2 is named twice by node 3, where one edge is
-/// cut, and still counts as used twice, so node 2 itself isn't cut on 0.
+/// "Cuts don't lower uses": node 3 is named twice by node 4, where one edge is
+/// cut, and still counts as used twice, so node 3 itself isn't cut on 0.
 #[test]
 fn cuts_do_not_lower_uses() {
-    let passes = passes_of(&named_twice());
-    assert_eq!(passes.visits[&3].cut, Some(Edge::Right));
-    assert!(passes.visits[&2].s.is_empty());
-    assert_eq!(passes.visits[&2].cut, None);
-    assert_eq!(passes.rebuilt.stand_ins[&3], 2);
+    let passes = passes_of(&twice_again());
+    assert_eq!(passes.visits[&4].cut, Some(Edge::Left));
+    assert!(passes.visits[&3].s.is_empty());
+    assert_eq!(passes.visits[&3].cut, None);
+    assert_eq!(passes.rebuilt.stand_ins[&4], 3);
 }
 
 #[test]
 fn a_twice_named_parent_is_dropped_once() {
     let again = twice_again();
     let done = press_ok(&again.sheet(), &again.table());
-    let mut expected = again.records;
-    expected.insert(2, dropped(0));
-    expected.push(dropped(1));
+    let mut expected = again.records[..4].to_vec();
+    expected.splice(3..3, [dropped(0), dropped(1)]);
+    expected.push(dropped(2));
     assert_eq!(done.out, sheet(&expected));
+}
+
+/// "If it holds p both ways, 01's order (-p first) decides": the left edge is
+/// cut, and lines 2 and 3 stay. With +p first they would be lines 0 and 1.
+#[test]
+fn minus_is_tried_before_plus() {
+    let either = either_way();
+    let passes = passes_of(&either);
+    assert_eq!(passes.visits[&6].cut, Some(Edge::Left));
+    assert_eq!(passes.visits[&6].s, clause("+0 -0"));
+    let done = press_ok(&either.sheet(), &either.table());
+    assert_eq!(done.core, [2, 3]);
+    assert_eq!(done.pressed.steps, 1);
 }
 
 #[test]
@@ -111,56 +120,32 @@ fn marks_are_of_the_pressed_sheet() {
     assert_eq!(press_ok(&sheet, &rules).core, [0, 2, 3]);
 }
 
-/// The right premise of the sink has two uses and the left one has one, so the
+/// The right premise of node 3 has two uses and the left one has one, so the
 /// right one is placed first.
 #[test]
 fn more_uses_go_first() {
-    let records = [
-        given(0, "+0 +1"),
-        given(1, "-1 -0 -2"),
-        step(1, 0, 1, "+0 -0 -2"),
-        given(2, "+2"),
-        step(2, 3, 2, "+0 -0"),
-        step(0, 4, 2, "+0 -0 -2"),
-    ];
-    let table = rules(&["+0 +1", "-1 -0 -2", "+2"]);
-    let passes = run_passes(read_proof(&sheet(&records), &table).unwrap());
-    assert_eq!(passes.order, [0, 1, 2, 3, 4, 5]);
-    let passes = passes_of(&more_uses());
-    assert_eq!(passes.order, [1, 2, 3, 0, 4, 5]);
-    let expected = [
-        given(0, "+0 +1"),
-        given(1, "-1 -0 -2"),
-        step(1, 0, 1, "+0 -0 -2"),
-        dropped(0),
-        dropped(1),
-        given(2, "+2"),
-        step(2, 3, 2, "+0 -0"),
-        dropped(3),
-        step(0, 4, 2, "+0 -0 -2"),
-        dropped(2),
-        dropped(4),
-    ];
-    assert_eq!(passes.records, expected);
+    let passes = passes_of(&heavier_right());
+    assert_eq!(passes.order, [0, 1, 3, 2, 4, 5]);
 }
 
-/// "one step naming it twice counts two": nodes 1 and 2 have two children each,
-/// but node 2 has three uses and so goes before node 1, the left premise of 3.
+/// "one step naming it twice counts two".
 #[test]
 fn uses_count_places_and_not_children() {
     let passes = passes_of(&places());
-    assert_eq!(passes.order, [0, 2, 1, 3, 4, 5, 6]);
+    let uses = passes.pressed.uses();
+    assert_eq!((uses[&2], uses[&1]), (3, 2));
+    assert_eq!(passes.order, [0, 1, 2, 5, 3, 4, 6]);
 }
 
 #[test]
 fn the_second_trim_lowers_uses() {
-    let passes = passes_of(&trimmed_again());
+    let passes = passes_of(&second_trim());
     let untrimmed = Proof {
         nodes: passes.rebuilt.nodes.clone(),
         sink: passes.pressed.sink,
     };
-    assert_eq!(passes.order[..2], [0, 1]);
-    assert_eq!(order(&untrimmed)[..2], [1, 0]);
+    assert_eq!(passes.order[..2], [2, 3]);
+    assert_eq!(order(&untrimmed)[..2], [3, 2]);
 }
 
 /// "left stand-in lacks +p, take it; else right lacks -p, take that": where
@@ -185,8 +170,8 @@ fn the_left_stand_in_is_tested_first() {
 
 #[test]
 fn a_rebuilt_step_may_name_one_node_twice() {
-    let (input, table) = twice_after().bytes();
-    let done = press_ok(&input, &table);
-    let expected = [given(1, "+0 +1 -1"), step(1, 0, 0, "+0 +1 -1"), dropped(0)];
-    assert_eq!(done.out, sheet(&expected));
+    let done = passes_of(&twice_after());
+    let twice = |node: &Record| matches!(node, Record::Node(Node::Step { left, right, .. }) if left == right);
+    assert!(!twice_after().records.iter().any(twice));
+    assert!(done.records.iter().any(twice));
 }

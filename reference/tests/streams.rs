@@ -6,7 +6,7 @@ use reference::{tables, worked};
 
 /// The first seed under which 300 cases have every answer that short ones can
 /// have.
-const SEED: u64 = 17;
+const SEED: u64 = 19;
 const COUNT: u64 = 300;
 
 const BOTH: [u32; 11] = [1, 2, 4, 6, 7, 8, 9, 11, 12, 13, 14];

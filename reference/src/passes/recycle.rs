@@ -19,12 +19,13 @@ pub struct Visit {
 pub type Visits = BTreeMap<usize, Visit>;
 
 /// "From the sink down by number, each reached node has a set S. The sink is
-/// reached, and so is each parent on an uncut edge of a reached step. The
-/// sink's S is empty. A node with two or more uses has S empty. Otherwise S
-/// comes from its only use."
+/// reached, and so is each parent on an uncut edge of a reached step. [...] A
+/// node with two or more uses has S empty. Otherwise S comes from its only
+/// use." Document 02 (v): "From now on the sink's S is its clause."
 pub fn recycle(trimmed: &Proof) -> Visits {
     let uses = trimmed.uses();
-    let mut handed = BTreeMap::from([(trimmed.sink, Clause::default())]);
+    let own = trimmed.nodes[&trimmed.sink].clause().clone();
+    let mut handed = BTreeMap::from([(trimmed.sink, own)]);
     let mut visits = Visits::new();
     for (&number, node) in trimmed.nodes.iter().rev() {
         let Some(only) = handed.remove(&number) else {

@@ -78,12 +78,13 @@ pub fn forward() -> Worked {
     Worked::new("forward", &["+0", "-0"], &records)
 }
 
-/// A given {+0,-0}, and then steps that each name the node before on both
-/// sides: 512 records, and the placing goes as deep.
+/// Two givens make {+0,-0}, and then steps each name the node before on both
+/// sides: 512 records, of which the last is cut, and the placing goes 510 deep.
 pub fn deep() -> Worked {
-    let mut records = vec![given(0, "+0 -0")];
-    records.extend((0..511).map(|node| step(0, node, node, "+0 -0")));
-    Worked::new("deep", &["+0 -0"], &records)
+    let mut records = vec![given(0, "+0 +1"), given(1, "-0 -1")];
+    records.push(step(1, 0, 1, "+0 -0"));
+    records.extend((2..511).map(|node| step(0, node, node, "+0 -0")));
+    Worked::new("deep", &["+0 +1", "-0 -1"], &records)
 }
 
 /// Those that the press takes, and that are short.

@@ -2,7 +2,6 @@
 //! and what the passes and the checks can come to.
 
 use super::{dropped, given, step, Worked};
-use crate::record::Record;
 
 /// The right premise of a step has two uses and the left one has one.
 pub fn heavier_right() -> Worked {
@@ -53,42 +52,48 @@ pub fn left_cut() -> Worked {
 
 /// Both stand-ins of a step lack its pivot: the left one is taken.
 pub fn both_lack() -> Worked {
+    let rules = ["+0 -1 +2", "+0", "-2", "-0 +1 -2"];
     let records = [
-        given(0, "-0 -1"),
-        given(1, "+0 +1 +2"),
-        step(1, 1, 0, "+0 -0 +2"),
-        given(2, "-0 -2"),
-        step(0, 1, 3, "+1 +2 -2"),
-        step(2, 2, 4, "+0 -0 +1 +2"),
-        step(0, 5, 0, "-0 +1 -1 +2"),
-        step(1, 1, 6, "+0 -0 +1 +2"),
+        given(0, "+0 -1 +2"),
+        given(1, "+0"),
+        given(2, "-2"),
+        given(3, "-0 +1 -2"),
+        step(0, 1, 3, "+1 -2"),
+        step(2, 0, 2, "+0 -1"),
+        step(1, 4, 5, "+0 -2"),
     ];
-    Worked::new("bothLack", &["-0 -1", "+0 +1 +2", "-0 -2"], &records)
+    Worked::new("bothLack", &rules, &records)
 }
 
 /// A step that names one node on both sides only once it is rebuilt.
 pub fn twice_after() -> Worked {
     let records = [
-        given(0, "-0"),
-        given(1, "+0 +1 -1"),
-        step(0, 1, 0, "+1 -1"),
-        step(1, 2, 1, "+0 +1 -1"),
-        step(1, 1, 3, "+0 +1 -1"),
+        given(0, "-0 -1 +2"),
+        given(1, "+0 +1 -2"),
+        step(1, 1, 0, "+0 -0 +2 -2"),
+        step(2, 0, 2, "+0 -0 -1 +2"),
+        step(0, 1, 2, "+0 +1 +2 -2"),
+        step(0, 3, 2, "+0 -0 -1 +2 -2"),
+        step(2, 0, 5, "+0 -0 -1 +2"),
+        step(0, 4, 6, "+0 +1 -1 +2 -2"),
+        step(1, 7, 6, "+0 -0 -1 +2 -2"),
     ];
-    Worked::new("twiceAfter", &["-0", "+0 +1 -1"], &records)
+    Worked::new("twiceAfter", &["-0 -1 +2", "+0 +1 -2"], &records)
 }
 
-/// Only the second trim brings the uses down so that the order changes.
+/// Once it is rebuilt, a node that names node 3 is out of the sink's reach. With
+/// it node 3 would have more uses than node 2, and would be placed first.
 pub fn second_trim() -> Worked {
-    let rules = ["+0 -0 -1 -2", "-0 +1", "-0 +2 -2", "-0"];
+    let rules = ["+0 +1 +2", "-1 -2", "+0 +2", "-0"];
     let records = [
-        given(0, "+0 -0 -1 -2"),
-        given(1, "-0 +1"),
-        given(2, "-0 +2 -2"),
-        step(0, 0, 0, "+0 -0 -1 -2"),
+        given(0, "+0 +1 +2"),
+        given(1, "-1 -2"),
+        given(2, "+0 +2"),
         given(3, "-0"),
-        step(1, 1, 3, "+0 -0 -2"),
-        step(0, 5, 2, "-0 +2 -2"),
+        step(0, 2, 3, "+2"),
+        step(0, 0, 3, "+1 +2"),
+        step(2, 4, 1, "-1"),
+        step(1, 5, 6, "+2"),
     ];
     Worked::new("secondTrim", &rules, &records)
 }
@@ -150,84 +155,64 @@ pub fn mirrored() -> Worked {
     Worked::new("mirrored", &rules, &records)
 }
 
-/// Node 2 is named twice by node 3, where one edge is cut: cuts don't lower
-/// uses.
-pub fn named_twice() -> Worked {
-    let records = [
-        given(0, "+0 -0"),
-        given(1, "+0 -0 +1"),
-        step(0, 0, 1, "+0 -0 +1"),
-        step(0, 2, 2, "+0 -0 +1"),
-        step(0, 3, 0, "+0 -0 +1"),
-    ];
-    Worked::new("namedTwice", &["+0 -0", "+0 -0 +1"], &records)
-}
-
-/// The right premise of the sink has two uses, the left one has one.
-pub fn more_uses() -> Worked {
-    let records = [
-        given(2, "+2"),
-        given(0, "+0 +1"),
-        given(1, "-1 -0 -2"),
-        step(1, 1, 2, "+0 -0 -2"),
-        step(2, 0, 3, "+0 -0"),
-        step(0, 4, 3, "+0 -0 -2"),
-    ];
-    Worked::new("moreUses", &["+0 +1", "-1 -0 -2", "+2"], &records)
-}
-
-/// Nodes 1 and 2 have two children each, but node 2 has three uses.
+/// Nodes 2 and 0 of the pressed sheet have as many children, but node 2, which a
+/// step names twice, has more uses.
 pub fn places() -> Worked {
-    let six = "+0 -0 +1 -1 +2 -2 +3 -3 +4 -4 +5 -5";
-    let node = |pivot, left, right| step(pivot, left, right, six);
+    let rules = ["+0 -1 -2 -3", "-0 +1 +2 +3"];
     let records = [
-        given(0, six),
-        node(0, 0, 0),
-        node(1, 0, 0),
-        node(2, 1, 2),
-        node(3, 2, 2),
-        node(4, 1, 4),
-        node(5, 3, 5),
+        given(0, "+0 -1 -2 -3"),
+        given(1, "-0 +1 +2 +3"),
+        step(0, 0, 1, "+1 -1 +2 -2 +3 -3"),
+        step(1, 2, 2, "+1 -1 +2 -2 +3 -3"),
+        step(3, 3, 0, "+0 +1 -1 +2 -2 -3"),
+        step(1, 1, 2, "-0 +1 +2 -2 +3 -3"),
+        step(2, 5, 4, "+0 -0 +1 -1 +2 -2 +3 -3"),
+        step(2, 6, 6, "+0 -0 +1 -1 +2 -2 +3 -3"),
     ];
-    Worked::new("places", &[six], &records)
+    Worked::new("places", &rules, &records)
 }
 
-/// Once it is rebuilt, nodes that name node 1 are out of the sink's reach. With
-/// them node 1 would have more uses than node 0, and would be placed first.
-pub fn trimmed_again() -> Worked {
+/// A cut step hands its S on, so that the next step on the same pivot is cut as
+/// well: on the left edge here.
+pub fn hands_on() -> Worked {
     let records = [
-        given(0, "+0 +2 -1"),
-        given(1, "+0 -0 +1 -1 -2"),
-        step(1, 1, 1, "+0 -0 +1 -1 -2"),
-        step(0, 0, 1, "+0 +1 -1 +2 -2"),
-        step(2, 3, 2, "+0 -0 +1 -1 -2"),
-        step(0, 0, 4, "+0 +1 -1 +2 -2"),
-        step(1, 5, 5, "+0 +1 -1 +2 -2"),
+        given(0, "-0 -1"),
+        given(1, "+0 +1"),
+        step(0, 1, 0, "+1 -1"),
+        step(1, 1, 2, "+0 +1"),
+        step(1, 3, 2, "+0 +1"),
     ];
-    Worked::new("trimmedAgain", &["+0 +2 -1", "+0 -0 +1 -1 -2"], &records)
+    Worked::new("handsOn", &["-0 -1", "+0 +1"], &records)
 }
 
-fn both_ways() -> Record {
-    given(0, "+0 -0")
-}
-
-fn on(left: usize, right: usize) -> Record {
-    step(0, left, right, "+0 -0")
-}
-
-/// A given node, and then three times a given node and a step: a cut step hands
-/// its S on.
-pub fn chain(steps: [(usize, usize); 3]) -> Worked {
-    let link = |(left, right)| [both_ways(), on(left, right)];
-    let links = steps.into_iter().flat_map(link);
-    let records: Vec<Record> = std::iter::once(both_ways()).chain(links).collect();
-    Worked::new("chain", &["+0 -0"], &records)
-}
-
-/// Two steps that each name the node before twice: it is dropped once.
+/// Steps that each name the node before on both sides: it is dropped once. The
+/// sink's left edge is cut, and the node on its right still has two uses.
 pub fn twice_again() -> Worked {
-    let records = [both_ways(), on(0, 0), on(1, 1)];
-    Worked::new("twiceAgain", &["+0 -0"], &records)
+    let either = |left, right| step(0, left, right, "+0 -0");
+    let records = [
+        given(0, "+0 +1"),
+        given(1, "-0 -1"),
+        step(1, 0, 1, "+0 -0"),
+        either(2, 2),
+        either(3, 3),
+    ];
+    Worked::new("twiceAgain", &["+0 +1", "-0 -1"], &records)
+}
+
+/// A derived conclusion that holds a variable both ways, which is the pivot of
+/// the last step: "If it holds p both ways, 01's order (-p first) decides."
+pub fn either_way() -> Worked {
+    let rules = ["+0 +1", "-0 -1", "+0 +2", "-0 -2"];
+    let records = [
+        given(0, "+0 +1"),
+        given(1, "-0 -1"),
+        step(1, 0, 1, "+0 -0"),
+        given(2, "+0 +2"),
+        given(3, "-0 -2"),
+        step(2, 3, 4, "+0 -0"),
+        step(0, 2, 5, "+0 -0"),
+    ];
+    Worked::new("eitherWay", &rules, &records)
 }
 
 /// A given record of a line of its own that nothing uses.

@@ -14,7 +14,7 @@ pub fn presses() -> Vec<Entry> {
 
 pub fn replays() -> Vec<Entry> {
     let of = |slots: usize| replay(&pressed(&pair()), &pair().table(), slots);
-    let with_peak = [(irregular(), 3), (twice(), 2)];
+    let with_peak = [(irregular(), 3), (twice(), 1)];
     let others = with_peak.map(|(sheet, peak)| replay(&pressed(&sheet), &sheet.table(), peak));
     [
         // pair's output, replayed: with three slots, with two, with none

@@ -8,8 +8,7 @@ pub fn slips() -> Vec<Entry> {
     let sheets = [
         mirrored(),
         shared_reset(),
-        chain([(0, 1), (2, 3), (4, 5)]),
-        chain([(0, 1), (3, 2), (5, 4)]),
+        hands_on(),
         twice_again(),
         unmarked(),
     ];
@@ -17,28 +16,22 @@ pub fn slips() -> Vec<Entry> {
 }
 
 pub fn stand_ins() -> Vec<Entry> {
-    [named_twice(), both_lack(), twice_after()]
-        .iter()
-        .map(press)
-        .collect()
+    [both_lack(), twice_after()].iter().map(press).collect()
 }
 
 /// "Of two premises the one with more uses in the pressed proof goes first;
 /// equal: left."
 pub fn orders() -> Vec<Entry> {
-    [
-        heavier_right(),
-        more_uses(),
-        places(),
-        second_trim(),
-        trimmed_again(),
-    ]
-    .iter()
-    .map(press)
-    .collect()
+    [heavier_right(), places(), second_trim()]
+        .iter()
+        .map(press)
+        .collect()
 }
 
 /// The rest of what the definitions compute.
 pub fn cuts() -> Vec<Entry> {
-    [right_cut(), left_cut()].iter().map(press).collect()
+    [right_cut(), left_cut(), either_way()]
+        .iter()
+        .map(press)
+        .collect()
 }
