@@ -31,30 +31,26 @@ pub fn run_passes(
     ensures lent { λ _. ⌜ (now (out .exit) ≡ put (now (out .entry)) 0 (sheetBytes narrow (withDrops (pressed (nodesIn (now (links .entry)) (now (clauses .entry))))))) × (now (marks .exit) ≡ put (now (marks .entry)) 0 (core lines (pressed (nodesIn (now (links .entry)) (now (clauses .entry)))))) ⌝ }
 {
     let n = links.len();
+    let sink = NodeNo((n - 1) as u16);
     let mut counts = [0u16; CAPACITY];
-    uses::uses_from(links, NodeNo((n - 1) as u16), &mut counts[..n]);
+    uses::uses_from(links, sink, &mut counts[..n]);
+    let own = clause_table::clause_at(clauses, sink);
     let mut fates = [0u8; CAPACITY];
-    press_recycle::recycle(links, &counts[..n], &mut fates[..n]);
+    press_recycle::recycle(links, own, &counts[..n], &mut fates[..n]);
     let mut stand_ins = [0u16; CAPACITY];
     press_rebuild::rebuild(links, clauses, &fates[..n], &mut stand_ins[..n]);
     let from = NodeNo(stand_ins[n - 1]);
     let mut numbers = [0u16; CAPACITY];
-    let count = press_order::order_from(links, from, &mut numbers[..n]) as usize;
-    let words = clause_table::words_for(count);
-    let mut pressed_links = [0u64; CAPACITY];
-    let mut pressed_clauses = [0u64; CLAUSE_WORDS];
+    let kept = press_order::order_from(links, from, &mut numbers[..n]) as usize;
+    let words = clause_table::words_for(kept);
+    let mut new_links = [0u64; CAPACITY];
+    let mut new_clauses = [0u64; CLAUSE_WORDS];
     press_lay::lay(
         links,
         clauses,
         &numbers[..n],
-        &mut pressed_links[..count],
-        &mut pressed_clauses[..words],
+        &mut new_links[..kept],
+        &mut new_clauses[..words],
     );
-    press_write::write(
-        &pressed_links[..count],
-        &pressed_clauses[..words],
-        lines,
-        out,
-        marks,
-    )
+    press_write::write(&new_links[..kept], &new_clauses[..words], lines, out, marks)
 }

@@ -5,7 +5,7 @@ use mathlib.Core.List.{List, [], _∷_}
 use native.Mathlib.Omega.{arith}
 use lib.ListN.{length, getD, set, replicate}
 use borrow.Author.Tests.{eq-eqb, ne-eqb}
-use Rattle.clause.specs.Clauses.{Literals, none}
+use Rattle.clause.specs.Clauses.{Literals}
 use Rattle.press_spec.specs.Recycle.{Reach, unreached, reached, reset, hand}
 use Rattle.press_nodes.specs.Tables.{clausesIn, beside, changed}
 use Rattle.press_nodes.proofs.Tables.{beside-length, beside-at, beside-set}
@@ -18,10 +18,10 @@ blank zero g = refl
 blank (suc n) g = ap (λ (t : List Reach). unreached ∷ t) (blank n (λ m. g (suc m)))
 
 pub reach-start : (bytes cleared sets : List ℕ) (n : ℕ) (S : Literals) (next : List Reach)
-    → cleared ≡ replicate (length bytes) 0 → next ≡ set (reachesIn cleared sets) n (reached S) → S ≡ none
-    → next ≡ set (replicate (length bytes) unreached) n (reached none)
+    → cleared ≡ replicate (length bytes) 0 → next ≡ set (reachesIn cleared sets) n (reached S)
+    → next ≡ set (replicate (length bytes) unreached) n (reached S)
 unfolding reachesIn
-reach-start bytes cleared sets n S next e d q = d ∙ rw (e, blank (length bytes) (clausesIn sets), q)
+reach-start bytes cleared sets n S next e d = d ∙ rw (e, blank (length bytes) (clausesIn sets))
 
 -- a byte that is not 0 in the place of another such
 same-marks : (b : List ℕ) (g : ℕ → Literals) (n x : ℕ) → (x ≡ 0 → ⊥) → (getD b n 0 ≡ 0 → ⊥) → beside reachOf (set b n x) g ≡ beside reachOf b g

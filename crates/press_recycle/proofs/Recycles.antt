@@ -8,7 +8,7 @@ use lib.ListN.{length, getD, set, replicate, List·getD-eq-default}
 use lib.Seq.{getD-set-same, getD-set-other}
 use Rattle.base.specs.Folds.{fall}
 use Rattle.base.proofs.Folds.{fall-all}
-use Rattle.clause.specs.Clauses.{Literals, none, plus, minus, adding}
+use Rattle.clause.specs.Clauses.{Literals, plus, minus, adding}
 use Rattle.clause.specs.Denote.{literalsOf}
 use Rattle.clause.specs.declared.Clause.{Clause}
 use Rattle.press_recycle.specs.declared.reach.Reach.{Reach as CodeReach}
@@ -152,23 +152,23 @@ sink-last : (h : List ℕ) → length h - 1 ≡ sink (linksIn h)
 unfolding sink
 sink-last h = let k : length h - 1 ≡ pred (length h) = omega arith in k ∙ ap pred (sym (links-length h))
 
-recycle-done : (fit : Fit) (h bytes : List ℕ) (i : ℕ) (first last : List Reach) → length bytes ≡ length h → 0 < length h
-    → first ≡ set (replicate (length bytes) unreached) (length h - 1) (reached none) → i ≤ 0
+recycle-done : (fit : Fit) (S : Literals) (h bytes : List ℕ) (i : ℕ) (first last : List Reach) → length bytes ≡ length h → 0 < length h
+    → first ≡ set (replicate (length bytes) unreached) (length h - 1) (reached S) → i ≤ 0
     → fall (recycleTurn fit (linksIn h)) i last ≡ fall (recycleTurn fit (linksIn h)) (length h) first
-    → last ≡ recycle fit none (linksIn h) (sink (linksIn h))
+    → last ≡ recycle fit S (linksIn h) (sink (linksIn h))
 unfolding recycle
-recycle-done fit h bytes i first last long some e z q =
+recycle-done fit S h bytes i first last long some e z q =
     let last-sink = sink-last h in
     let n : length h ≡ suc (sink (linksIn h)) = omega arith in
     let m : length bytes ≡ length (linksIn h) = long ∙ sym (links-length h) in
     fall-all (recycleTurn fit (linksIn h)) i last _ z
     (q ∙ ap₂ (fall (recycleTurn fit (linksIn h))) n (e ∙ rw (m, last-sink)))
 
-pub fates-done : (fit : Fit) (h bytes last sets : List ℕ) (i : ℕ) (first : List Reach) → length bytes ≡ length h → 0 < length h
-    → first ≡ set (replicate (length bytes) unreached) (length h - 1) (reached none) → i ≤ 0
+pub fates-done : (fit : Fit) (S : Literals) (h bytes last sets : List ℕ) (i : ℕ) (first : List Reach) → length bytes ≡ length h → 0 < length h
+    → first ≡ set (replicate (length bytes) unreached) (length h - 1) (reached S) → i ≤ 0
     → fall (recycleTurn fit (linksIn h)) i (reachesIn last sets) ≡ fall (recycleTurn fit (linksIn h)) (length h) first
-    → Fated (linksIn h) last sets i → fatesIn last ≡ fates (linksIn h) (recycle fit none (linksIn h) (sink (linksIn h)))
-fates-done fit h bytes last sets i first long some e z q f =
-    let made = recycle-done fit h bytes i first (reachesIn last sets) long some e z q in
+    → Fated (linksIn h) last sets i → fatesIn last ≡ fates (linksIn h) (recycle fit S (linksIn h) (sink (linksIn h)))
+fates-done fit S h bytes last sets i first long some e z q f =
+    let made = recycle-done fit S h bytes i first (reachesIn last sets) long some e z q in
     let each : (m : ℕ) → fatesIn last m ≡ fates (linksIn h) (reachesIn last sets) m = λ m. f m (omega arith) in
     _∙_ {b = fates (linksIn h) (reachesIn last sets)} (λ d m. each m d) (ap (fates (linksIn h)) made)

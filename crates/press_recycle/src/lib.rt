@@ -1,9 +1,9 @@
 // 2. Recycle pivots (000, algorithm 3): "From the sink down by number, each reached node has a set S. The sink is reached, and so is each
-// parent on an uncut edge of a reached step. The sink's S is empty."
+// parent on an uncut edge of a reached step." The sink's S is its clause.
 ghost use mathlib.Core.Path.{_≡_};
 ghost use Prim.Native.Nat.{ℕ, suc, _≤_, _<_};
 ghost use lib.ListN.{length, getD, set};
-ghost use Rattle.clause.specs.Clauses.{none, adding};
+ghost use Rattle.clause.specs.Clauses.{adding};
 ghost use Rattle.clause.specs.Clauses as clauses;
 ghost use Rattle.clause.specs.Denote.{width, literalsOf};
 ghost use Rattle.press_spec.specs.Links.{sink};
@@ -130,13 +130,14 @@ fn recycle_turn(links: &[u64], uses: &[u16], n: NodeNo, fates: &mut [u8], sets: 
     hand_on(uses, cut, pivot, left, right, s, fates, sets);
 }
 
-fn recycle_with(links: &[u64], uses: &[u16], fates: &mut [u8], sets: &mut [u64])
+fn recycle_with(links: &[u64], own: Clause, uses: &[u16], fates: &mut [u8], sets: &mut [u64])
     requires { ⌜ Links (now links) ⌝ }
     requires { ⌜ (length (now uses) ≡ length (now links)) × (length (now fates) ≡ length (now links)) × (length (now sets) ≡ clauseWords (length (now links))) × (0 < length (now links)) ⌝ }
-    ensures { λ _. ⌜ (let t = linksIn (now (links .entry)) in fatesIn (now (fates .exit)) ≡ recycling.fates t (recycle (reset (countIn (now (uses .entry)))) none t (sink t))) ⌝ }
+    ensures { λ _. ⌜ (let t = linksIn (now (links .entry)) in fatesIn (now (fates .exit)) ≡ recycling.fates t (recycle (reset (countIn (now (uses .entry)))) (literalsOf own) t (sink t))) ⌝ }
 {
     let n = links.len() as u16;
-    reach::reach_only(fates, sets, NodeNo(n - 1));
+    let sink = n - 1;
+    reach::reach_only(fates, sets, NodeNo(sink), own);
     let mut i = n;
     while 0 < i {
         i -= 1;
@@ -144,13 +145,13 @@ fn recycle_with(links: &[u64], uses: &[u16], fates: &mut [u8], sets: &mut [u64])
     }
 }
 
-// What becomes of each node.
-pub fn recycle(links: &[u64], uses: &[u16], fates: &mut [u8])
+// What becomes of each node, where `own` is the sink's clause.
+pub fn recycle(links: &[u64], own: Clause, uses: &[u16], fates: &mut [u8])
     requires { ⌜ Links (now links) ⌝ }
     requires { ⌜ (length (now uses) ≡ length (now links)) × (length (now fates) ≡ length (now links)) × (0 < length (now links)) ⌝ }
-    ensures { λ _. ⌜ (let t = linksIn (now (links .entry)) in fatesIn (now (fates .exit)) ≡ recycling.fates t (recycle (reset (countIn (now (uses .entry)))) none t (sink t))) ⌝ }
+    ensures { λ _. ⌜ (let t = linksIn (now (links .entry)) in fatesIn (now (fates .exit)) ≡ recycling.fates t (recycle (reset (countIn (now (uses .entry)))) (literalsOf own) t (sink t))) ⌝ }
 {
     let words = clause_table::words_for(links.len());
     let mut sets = [0u64; CLAUSE_WORDS];
-    recycle_with(links, uses, fates, &mut sets[..words]);
+    recycle_with(links, own, uses, fates, &mut sets[..words]);
 }

@@ -2,7 +2,6 @@
 ghost use mathlib.Core.Path.{_≡_};
 ghost use Prim.Native.Nat.{suc, _≤_, _<_};
 ghost use lib.ListN.{length, getD, set, replicate};
-ghost use Rattle.clause.specs.Clauses.{none};
 ghost use Rattle.clause.specs.Denote.{literalsOf};
 ghost use Rattle.press_spec.specs.Recycle.{unreached, reached};
 ghost use Rattle.press_nodes.specs.Tables.{clauseWords};
@@ -40,11 +39,11 @@ pub(crate) fn put_reach(fates: &mut [u8], sets: &mut [u64], n: NodeNo, s: Clause
     fates[i] = fate::KEPT;
 }
 
-// Node n alone is reached, and its set is empty.
-pub(crate) fn reach_only(fates: &mut [u8], sets: &mut [u64], n: NodeNo)
+// Node n alone is reached, with the set s.
+pub(crate) fn reach_only(fates: &mut [u8], sets: &mut [u64], n: NodeNo, s: Clause)
     requires { ⌜ (n .0 < length (now fates)) × (clauseWords (suc (n .0)) ≤ length (now sets)) ⌝ }
-    ensures { λ _. ⌜ reachesIn (now (fates .exit)) (now (sets .exit)) ≡ set (replicate (length (now (fates .entry))) unreached) (n .0) (reached none) ⌝ }
+    ensures { λ _. ⌜ reachesIn (now (fates .exit)) (now (sets .exit)) ≡ set (replicate (length (now (fates .entry))) unreached) (n .0) (reached (literalsOf s)) ⌝ }
 {
     clear::clear_marks(fates);
-    put_reach(fates, sets, n, clause::nothing());
+    put_reach(fates, sets, n, s);
 }

@@ -1,6 +1,6 @@
 -- What every press keeps, for any cuts that are Allowed and any order that ends with the sink; and the press of the scope document as one of these.
 use Prim.Native.Nat.{ℕ, _≤_, _<_, pred}
-use mathlib.Core.Path.{refl}
+use mathlib.Core.Path.{_≡_, refl, ap}
 use mathlib.Core.Logic.{inl, inr}
 use mathlib.Core.List.{List}
 use native.Mathlib.Omega.{arith}
@@ -13,10 +13,10 @@ use Rattle.press_spec.specs.Trim.{usesFrom}
 use Rattle.press_spec.specs.Recycle.{Fit, reset, recycle, Fate, fates}
 use Rattle.press_spec.specs.Rebuild.{Built, standIn, standing, rebuild}
 use Rattle.press_spec.specs.Order.{orderFrom, laid}
-use Rattle.press_spec.specs.Press.{conclusion, recycled, arranged, pressed}
+use Rattle.press_spec.specs.Press.{conclusion, recycled, arranged, pressedFrom, pressed}
 use Rattle.press_spec.proofs.Proper.{ProperNode, AllProper, Kept}
 use Rattle.press_spec.proofs.Nodes.{link-at, links-falling, proper-falling}
-use Rattle.press_spec.proofs.Literals.{Within, in-none}
+use Rattle.press_spec.proofs.Literals.{Within}
 use Rattle.press_spec.proofs.Rebuilt.{Rebuilding, rebuilt, IsKept, StandsIn, standIn-sound, standIn-below}
 use Rattle.press_spec.proofs.Allowed.{Allowed, allowed-closed, standing-within}
 use Rattle.press_spec.proofs.Recycled.{Fair, reset-fair, setsIn, recycle-allowed, recycle-keeps, recycle-starts}
@@ -87,7 +87,12 @@ module _ (e : Edition) (rules : List ℕ) (s : List Node) (proper : AllProper e 
       (recycle-allowed fit S₀ (links s) f (sink s) i fair) (recycle-keeps fit S₀ (links s) f (sink s) i fair)
       (rw (recycle-starts fit S₀ (links s) f (sink s) i fair) sub)
 
-  -- "The sink's S is empty."
+  -- "From now on the sink's S is its clause.": it is within the conclusion, being just that
   pub pressed-kept : Kept e rules s (pressed s)
-  unfolding pressed
-  pressed-kept = recycled-kept (reset (usesFrom (links s) (sink s))) (reset-fair (usesFrom (links s) (sink s))) none (λ x h. absurd (in-none x h))
+  unfolding pressed pressedFrom
+  pressed-kept = recycled-kept (reset (usesFrom (links s) (sink s))) (reset-fair (usesFrom (links s) (sink s))) (conclusion s) (λ x h. h)
+
+-- "Sheets with an empty conclusion press as before.": as with an empty set for the sink
+pub empty-as-before : (s : List Node) → conclusion s ≡ none → pressed s ≡ pressedFrom none s
+unfolding pressed
+empty-as-before s e = ap (λ (S : Literals). pressedFrom S s) e

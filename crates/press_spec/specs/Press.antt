@@ -3,7 +3,7 @@ use Prim.Native.Nat.{ℕ}
 use mathlib.Core.List.{List}
 use lib.ListN.{length, replicate}
 use Rattle.base.specs.Bytes.{put}
-use Rattle.clause.specs.Clauses.{Literals, none}
+use Rattle.clause.specs.Clauses.{Literals}
 use Rattle.sheet.specs.declared.Reason.{Reason}
 use Rattle.sheet.specs.declared.Verdict.{Verdict}
 use Rattle.sheet.specs.declared.Verdict.the-variants.{Fine, Refused}
@@ -28,9 +28,16 @@ recycled fit S s = rebuild s (fates (links s) (recycle fit S (links s) (sink s))
 unfoldable pub arranged : Built → ℕ → List Node
 arranged b n = laid (b .nodes) (orderFrom (links (b .nodes)) (standIn b n))
 
--- 1 to 5: "The sink's S is empty."
+-- 1 to 5, with a set for the sink
+unfoldable pub pressedFrom : Literals → List Node → List Node
+pressedFrom S s = arranged (recycled (reset (usesFrom (links s) (sink s))) S s) (sink s)
+
+unfoldable pub conclusion : List Node → Literals
+conclusion s = clause (nodeAt s (sink s))
+
+-- "The sink's S is its clause."
 unfoldable pub pressed : List Node → List Node
-pressed s = arranged (recycled (reset (usesFrom (links s) (sink s))) none s) (sink s)
+pressed s = pressedFrom (conclusion s) s
 
 -- what a press is lent
 pub record Call : Type 0 where
@@ -66,9 +73,6 @@ pub record Outcome : Type 0 where
 
 abbrev pub outcome : Answer → List ℕ → List ℕ → Outcome
 outcome a out marks = record { answer = a; out = out; marks = marks }
-
-unfoldable pub conclusion : List Node → Literals
-conclusion s = clause (nodeAt s (sink s))
 
 -- the core of a table of so many lines, a mark for each
 unfoldable pub core : ℕ → List Node → List ℕ

@@ -54,20 +54,20 @@ module _ (u : tie.After-uses-from) where
 
 module _ (r : tie.After-recycle) where
   abbrev recycling : tie.Start
-  recycling = r .before .before .before .before .before .before .before .before .before .before .before .before
+  recycling = r .before .before .before .before .before .before .before .before .before .before .before .before .before .before
 
   abbrev fates : List ℕ
-  fates = r .recycle .last .1 .1 .0
+  fates = r .recycle .last .1 .1 .1 .0
 
   fates-long : n recycling ≤ length (fates ++ drop (n recycling) (replicate capacity 0))
-  fates-long = front-long (replicate capacity 0) fates (n recycling) (r .recycle .kept .1 .1 .0) (few recycling)
+  fates-long = front-long (replicate capacity 0) fates (n recycling) (r .recycle .kept .1 .1 .1 .0) (few recycling)
 
   fates-again : take (n recycling) (fates ++ drop (n recycling) (replicate capacity 0)) ≡ fates
-  fates-again = front-again (replicate capacity 0) fates (n recycling) (r .recycle .kept .1 .1 .0) (few recycling)
+  fates-again = front-again (replicate capacity 0) fates (n recycling) (r .recycle .kept .1 .1 .1 .0) (few recycling)
 
 module _ (b : tie.After-rebuild) where
   abbrev building : tie.Start
-  building = b .before .before .before .before .before .before .before .before .before .before .before .before .before .before .before .before .before .before
+  building = b .before .before .before .before .before .before .before .before .before .before .before .before .before .before .before .before .before .before .before .before
 
   abbrev links′ : List ℕ
   links′ = b .rebuild .last .0
@@ -99,8 +99,10 @@ module _ (b : tie.After-rebuild) where
 
   passed : laid (nodesIn links′ clauses′) (orderFrom (linksIn links′) from) ≡ pressed (nodesIn (links building) (clauses building))
   passed =
-      from-pressed (building .pre .0 .0) links′ clauses′ _ _ (b .rebuild .ensures) from read _
-      (λ m. rw (counts-again (b .before .before .before .before .before .before .before .before .before .before .before)) (b .before .before .before .before .before .before .before .before .before .before .before .uses-from .ensures m))
+      let counted = b .before .before .before .before .before .before .before .before .before .before .before .before .before in
+      let owned = b .before .before .before .before .before .before .before .before .before .before in
+      from-pressed (building .pre .0 .0) links′ clauses′ _ _ (b .rebuild .ensures) from read (building .pre .0 .1) _
+      (λ m. rw (counts-again counted) (counted .uses-from .ensures m)) _ (owned .clause-at .ensures)
       (ap fatesIn (fates-again (b .before .before .before .before .before .before)) ∙ b .before .before .before .before .before .before .recycle .ensures)
 
 module _ (o : tie.After-order-from) where
@@ -193,11 +195,11 @@ module _ (y : tie.After-lay) where
       ≡ pressed (nodesIn (links (ordering placed)) (clauses (ordering placed)))
   lent = ap₂ nodesIn links-again clauses-again ∙ laid-out ∙ passed (built placed)
 
-sub-count : tie.Need-sub-count
-sub-count c = search needs
+sub-kept : tie.Need-sub-kept
+sub-kept c = search needs
 
-cast-count : tie.Need-cast-count
-cast-count c = search needs
+cast-kept : tie.Need-cast-kept
+cast-kept c = search needs
 
 array-borrow-prefix-counts : tie.Need-array-borrow-prefix-counts
 array-borrow-prefix-counts c = search needs
@@ -208,20 +210,23 @@ slice-aggregate-uses-from c = sym (lent-long capacity _ (few (c .before .before 
 uses-from-requires : tie.Need-uses-from-requires
 uses-from-requires c κs = (c .before .before .before .before .before .before .pre .0 .0 .linked, (lent-long capacity _ (few (c .before .before .before .before .before .before)), omega (arith, c .before .before .before .before .before .before .pre .0 .1)))
 
+clause-at-requires : tie.Need-clause-at-requires
+clause-at-requires c κs = let st = c .before .before .before .before .before .before .before .before .before in omega (arith, st .pre .0 .0 .size, st .pre .0 .1)
+
 array-share-prefix-counts : tie.Need-array-share-prefix-counts
-array-share-prefix-counts c = counts-long (c .before .before)
+array-share-prefix-counts c = counts-long (c .before .before .before .before)
 
 slice-aggregate-recycle : tie.Need-slice-aggregate-recycle
-slice-aggregate-recycle c = sym (length-take-le _ _ (counts-long (c .before .before .before)))
+slice-aggregate-recycle c = sym (length-take-le _ _ (counts-long (c .before .before .before .before .before)))
 
 array-borrow-prefix-fates : tie.Need-array-borrow-prefix-fates
 array-borrow-prefix-fates c = search needs
 
 slice-aggregate-recycle-2 : tie.Need-slice-aggregate-recycle-2
-slice-aggregate-recycle-2 c = sym (lent-long capacity _ (few (c .before .before .before .before .before .before .before .before .before .before .before)))
+slice-aggregate-recycle-2 c = sym (lent-long capacity _ (few (c .before .before .before .before .before .before .before .before .before .before .before .before .before)))
 
 recycle-requires : tie.Need-recycle-requires
-recycle-requires c κs = (c .before .before .before .before .before .before .before .before .before .before .before .pre .0 .0 .linked, (length-take-le _ _ (counts-long (c .before .before .before .before)), lent-long capacity _ (few (c .before .before .before .before .before .before .before .before .before .before .before)), c .before .before .before .before .before .before .before .before .before .before .before .pre .0 .1))
+recycle-requires c κs = (c .before .before .before .before .before .before .before .before .before .before .before .before .before .pre .0 .0 .linked, (length-take-le _ _ (counts-long (c .before .before .before .before .before .before)), lent-long capacity _ (few (c .before .before .before .before .before .before .before .before .before .before .before .before .before)), c .before .before .before .before .before .before .before .before .before .before .before .before .before .pre .0 .1))
 
 array-share-prefix-fates : tie.Need-array-share-prefix-fates
 array-share-prefix-fates c = fates-long (c .before .before .before)
@@ -233,32 +238,32 @@ array-borrow-prefix-stand-ins : tie.Need-array-borrow-prefix-stand-ins
 array-borrow-prefix-stand-ins c = search needs
 
 slice-aggregate-rebuild-2 : tie.Need-slice-aggregate-rebuild-2
-slice-aggregate-rebuild-2 c = sym (lent-long capacity _ (few (c .before .before .before .before .before .before .before .before .before .before .before .before .before .before .before .before .before)))
+slice-aggregate-rebuild-2 c = sym (lent-long capacity _ (few (c .before .before .before .before .before .before .before .before .before .before .before .before .before .before .before .before .before .before .before)))
 
 rebuild-requires : tie.Need-rebuild-requires
-rebuild-requires c κs = (c .before .before .before .before .before .before .before .before .before .before .before .before .before .before .before .before .before .pre .0 .0, (length-take-le _ _ (fates-long (c .before .before .before .before .before)), lent-long capacity _ (few (c .before .before .before .before .before .before .before .before .before .before .before .before .before .before .before .before .before))))
+rebuild-requires c κs = (c .before .before .before .before .before .before .before .before .before .before .before .before .before .before .before .before .before .before .before .pre .0 .0, (length-take-le _ _ (fates-long (c .before .before .before .before .before)), lent-long capacity _ (few (c .before .before .before .before .before .before .before .before .before .before .before .before .before .before .before .before .before .before .before))))
 
-sub-count-2 : tie.Need-sub-count-2
-sub-count-2 c = search needs
+sub-kept-2 : tie.Need-sub-kept-2
+sub-kept-2 c = search needs
 
-mul-count : tie.Need-mul-count
-mul-count c = search needs
+mul-kept : tie.Need-mul-kept
+mul-kept c = search needs
 
-array-read-count : tie.Need-array-read-count
-array-read-count c = search needs
+array-read-kept : tie.Need-array-read-kept
+array-read-kept c = let st = c .before .before .before .before .before .before .before .before .before .before .before .before .before .before .before .before .before .before .before .before .before .before .before .before .before in omega (arith, few st, st .pre .0 .1)
 
 array-borrow-prefix-numbers : tie.Need-array-borrow-prefix-numbers
-array-borrow-prefix-numbers c = search needs
+array-borrow-prefix-numbers c = few (c .before .before .before .before .before .before .before .before .before .before .before .before .before .before .before .before .before .before .before .before .before .before .before .before .before .before)
 
 slice-aggregate-order-from : tie.Need-slice-aggregate-order-from
-slice-aggregate-order-from c = sym (lent-long capacity _ (few (c .before .before .before .before .before .before .before .before .before .before .before .before .before .before .before .before .before .before .before .before .before .before .before .before .before)))
+slice-aggregate-order-from c = sym (lent-long capacity _ (few (c .before .before .before .before .before .before .before .before .before .before .before .before .before .before .before .before .before .before .before .before .before .before .before .before .before .before .before)))
 
 order-from-requires : tie.Need-order-from-requires
 order-from-requires c κs = let b = c .before .before .before .before .before .before .before in
-    (tables b .linked, (lent-long capacity _ (few (c .before .before .before .before .before .before .before .before .before .before .before .before .before .before .before .before .before .before .before .before .before .before .before .before .before)) ∙ sym (long b), below b))
+    (tables b .linked, (lent-long capacity _ (few (c .before .before .before .before .before .before .before .before .before .before .before .before .before .before .before .before .before .before .before .before .before .before .before .before .before .before .before)) ∙ sym (long b), below b))
 
-cast-count-2 : tie.Need-cast-count-2
-cast-count-2 c = search needs
+cast-kept-2 : tie.Need-cast-kept-2
+cast-kept-2 c = search needs
 
 words-for-requires : tie.Need-words-for-requires
 words-for-requires c κs = count-fits (c .before)
@@ -269,14 +274,14 @@ array-share-prefix-numbers c = numbers-long (c .before .before .before .before)
 slice-aggregate-lay : tie.Need-slice-aggregate-lay
 slice-aggregate-lay c = sym (length-take-le _ _ (numbers-long (c .before .before .before .before .before)))
 
-array-borrow-prefix-pressed-links : tie.Need-array-borrow-prefix-pressed-links
-array-borrow-prefix-pressed-links c = count-fits (c .before .before .before .before .before)
+array-borrow-prefix-new-links : tie.Need-array-borrow-prefix-new-links
+array-borrow-prefix-new-links c = count-fits (c .before .before .before .before .before)
 
 slice-aggregate-lay-2 : tie.Need-slice-aggregate-lay-2
 slice-aggregate-lay-2 c = sym (room (c .before .before .before .before .before .before))
 
-array-borrow-prefix-pressed-clauses : tie.Need-array-borrow-prefix-pressed-clauses
-array-borrow-prefix-pressed-clauses c = words-fit (c .before .before .before .before)
+array-borrow-prefix-new-clauses : tie.Need-array-borrow-prefix-new-clauses
+array-borrow-prefix-new-clauses c = words-fit (c .before .before .before .before)
 
 slice-aggregate-lay-3 : tie.Need-slice-aggregate-lay-3
 slice-aggregate-lay-3 c = sym (words-room (c .before .before .before .before .before))
@@ -291,22 +296,22 @@ lay-requires c κs = let w = c .before .before .before .before .before in
       ),
     )
 
-array-share-prefix-pressed-links : tie.Need-array-share-prefix-pressed-links
-array-share-prefix-pressed-links c = links-long (c .before .before)
+array-share-prefix-new-links : tie.Need-array-share-prefix-new-links
+array-share-prefix-new-links c = links-long (c .before .before)
 
 slice-aggregate-write : tie.Need-slice-aggregate-write
 slice-aggregate-write c = sym (length-take-le _ _ (links-long (c .before .before .before)))
 
-array-share-prefix-pressed-clauses : tie.Need-array-share-prefix-pressed-clauses
-array-share-prefix-pressed-clauses c = clauses-long (c .before .before .before)
+array-share-prefix-new-clauses : tie.Need-array-share-prefix-new-clauses
+array-share-prefix-new-clauses c = clauses-long (c .before .before .before)
 
 slice-aggregate-write-2 : tie.Need-slice-aggregate-write-2
 slice-aggregate-write-2 c = sym (length-take-le _ _ (clauses-long (c .before .before .before .before)))
 
 write-requires : tie.Need-write-requires
 write-requires c κs = let y = c .before .before .before .before .before .before in
-    let a = c .before .before .before .before .before .before .before .before .before .before .before .before .before .before .before .before .before .before .before .before .before .before .before .before .before .before .before .before .before .before .before .before .before .before .before .before .before .before .before .before .args in
-    (rw (links-again y, clauses-again y) (pressed-tables y), subst (λ (s : List Node). Emittable (a .lines) s (a .out .now) (a .marks .now)) (sym (lent y)) (c .before .before .before .before .before .before .before .before .before .before .before .before .before .before .before .before .before .before .before .before .before .before .before .before .before .before .before .before .before .before .before .before .before .before .before .before .before .before .before .before .pre .1))
+    let a = c .before .before .before .before .before .before .before .before .before .before .before .before .before .before .before .before .before .before .before .before .before .before .before .before .before .before .before .before .before .before .before .before .before .before .before .before .before .before .before .before .before .before .args in
+    (rw (links-again y, clauses-again y) (pressed-tables y), subst (λ (s : List Node). Emittable (a .lines) s (a .out .now) (a .marks .now)) (sym (lent y)) (c .before .before .before .before .before .before .before .before .before .before .before .before .before .before .before .before .before .before .before .before .before .before .before .before .before .before .before .before .before .before .before .before .before .before .before .before .before .before .before .before .before .before .pre .1))
 
 same-length : tie.Need-same-length
 same-length c = c .before .before .before .before .before .before .before .before .before .before .before .before .before .before .before .before .before .before .before .before .before .before .before .before .before .before .before .rebuild .kept .0
@@ -321,7 +326,7 @@ same-length-4 : tie.Need-same-length-4
 same-length-4 c = search needs
 
 returns : tie.Need-returns
-returns c = let a = c .before .before .before .before .before .before .before .before .before .before .before .before .before .before .before .before .before .before .before .before .before .before .before .before .before .before .before .before .before .before .before .before .before .before .before .before .before .before .before .before .before .before .before .before .before .args in
+returns c = let a = c .before .before .before .before .before .before .before .before .before .before .before .before .before .before .before .before .before .before .before .before .before .before .before .before .before .before .before .before .before .before .before .before .before .before .before .before .before .before .before .before .before .before .before .before .before .before .before .args in
     let e = c .before .before .before .before .write .ensures in
     let same = lent (c .before .before .before .before .before .before .before .before .before .before .before) in (
       e .0 ∙ ap (report (a .lines)) same,
@@ -335,11 +340,12 @@ pub run-passes-spec : {M : Type 1} → statement M
 run-passes-spec =
     tie.close
     (tie.spec
-    sub-count
-    cast-count
+    sub-kept
+    cast-kept
     array-borrow-prefix-counts
     slice-aggregate-uses-from
     uses-from-requires
+    clause-at-requires
     array-share-prefix-counts
     slice-aggregate-recycle
     array-borrow-prefix-fates
@@ -350,24 +356,24 @@ run-passes-spec =
     array-borrow-prefix-stand-ins
     slice-aggregate-rebuild-2
     rebuild-requires
-    sub-count-2
-    mul-count
-    array-read-count
+    sub-kept-2
+    mul-kept
+    array-read-kept
     array-borrow-prefix-numbers
     slice-aggregate-order-from
     order-from-requires
-    cast-count-2
+    cast-kept-2
     words-for-requires
     array-share-prefix-numbers
     slice-aggregate-lay
-    array-borrow-prefix-pressed-links
+    array-borrow-prefix-new-links
     slice-aggregate-lay-2
-    array-borrow-prefix-pressed-clauses
+    array-borrow-prefix-new-clauses
     slice-aggregate-lay-3
     lay-requires
-    array-share-prefix-pressed-links
+    array-share-prefix-new-links
     slice-aggregate-write
-    array-share-prefix-pressed-clauses
+    array-share-prefix-new-clauses
     slice-aggregate-write-2
     write-requires
     same-length

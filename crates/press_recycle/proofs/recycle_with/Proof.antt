@@ -13,7 +13,7 @@ use Rattle.press_recycle.proofs.recycle_with.Statement.{statement}
 use Rattle.press_recycle.proofs.recycle_with.Tie as tie
 
 abbrev Inv-loop : tie.InvT-loop
-Inv-loop links uses fates₀ sets₀ n i₀ fates sets i = (i ≤ length links)
+Inv-loop links uses fates₀ sets₀ n sink i₀ fates sets i = (i ≤ length links)
     × (length fates ≡ length links)
     × (length sets ≡ clauseWords (length links))
     × (fall (recycleTurn (reset (countIn uses)) (linksIn links)) i (reachesIn fates sets)
@@ -21,13 +21,13 @@ Inv-loop links uses fates₀ sets₀ n i₀ fates sets i = (i ≤ length links)
     × Fated (linksIn links) fates sets i
 
 abbrev μ-loop : tie.MeasureT-loop
-μ-loop links uses fates₀ sets₀ n i₀ fates sets i = i
+μ-loop links uses fates₀ sets₀ n sink i₀ fates sets i = i
 
 cast-n : tie.Need-cast-n Inv-loop μ-loop
 cast-n c = search needs
 
-sub-t13 : tie.Need-sub-t13 Inv-loop μ-loop
-sub-t13 c = search needs
+sub-sink : tie.Need-sub-sink Inv-loop μ-loop
+sub-sink c = search needs
 
 reach-only-requires : tie.Need-reach-only-requires Inv-loop μ-loop
 reach-only-requires c κs = search needs
@@ -66,7 +66,7 @@ recycle-with-spec =
     Inv-loop
     μ-loop
     cast-n
-    sub-t13
+    sub-sink
     reach-only-requires
     loop-holds
     sub-i

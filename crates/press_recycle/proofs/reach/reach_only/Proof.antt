@@ -6,9 +6,6 @@ use Rattle.press_recycle.proofs.reach.reach_only.Tie as tie
 clear-marks-requires : tie.Need-clear-marks-requires
 clear-marks-requires c κs = search needs
 
-nothing-requires : tie.Need-nothing-requires
-nothing-requires c κs = search needs
-
 put-reach-requires : tie.Need-put-reach-requires
 put-reach-requires c κs = search needs
 
@@ -23,4 +20,4 @@ returns c = search reach-start
 
 pub reach-only-spec : {M : Type 1} → statement M
 reach-only-spec =
-    tie.close (tie.spec clear-marks-requires nothing-requires put-reach-requires same-length same-length-2 returns)
+    tie.close (tie.spec clear-marks-requires put-reach-requires same-length same-length-2 returns)
