@@ -44,9 +44,9 @@ WORKED = worked()
 RULES, PAIR, PAIR_OUT = WORKED["pair"]
 GIVENS = PAIR[:48]
 PAIR_OK = "ok records 5 nodes 3 steps 1 peak 3 core 2"
-# 512 records that are placed 512 deep
+# 512 records that are placed 510 deep
 DEEP_RULES, DEEP, DEEP_OUT = WORKED["deep"]
-DEEP_OK = "ok records 1023 nodes 512 steps 511 peak 2 core 1"
+DEEP_OK = "ok records 1021 nodes 511 steps 509 peak 3 core 2"
 
 
 def files(sheet=PAIR, rules=RULES, **more):
@@ -60,7 +60,7 @@ def accepted(t):
     lines = {
         "lone": "ok records 1 nodes 1 steps 0 peak 1 core 1",
         "irregular": "ok records 9 nodes 5 steps 2 peak 3 core 3",
-        "twice": "ok records 3 nodes 2 steps 1 peak 2 core 1",
+        "twice": "ok records 1 nodes 1 steps 0 peak 1 core 1",
         "deep": DEEP_OK,
     }
     for name, (rules, sheet, out) in WORKED.items():

@@ -1,6 +1,5 @@
 //! Interesting things that may happen inside an accepted press.
 
-use crate::lengths::PRESS_RECORDS;
 use crate::passes::drops::peak;
 use crate::passes::order::order_by;
 use crate::passes::rebuild::Why;
@@ -75,7 +74,7 @@ fn output_events(passes: &Passes) -> Vec<Event> {
         ),
         ("output: peak over 3", peak > 3),
         ("output: peak over 8", peak > 8),
-        ("output: depth 512", depth(pressed) == PRESS_RECORDS),
+        ("output: depth over 500", depth(pressed) > 500),
     ]
 }
 
