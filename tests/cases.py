@@ -193,7 +193,10 @@ def refused(t):
     case("the first record names itself", "refused 9 at 0", step(0, 0, 0, "") + PAIR)
     case("+p missing on the left", "refused 11 at 2", GIVENS + step(0, 1, 1, ""))
     case("-p missing on the right", "refused 11 at 2", GIVENS + step(0, 0, 0, "+7"))
-    case("a clause that is not the result", "refused 12 at 2", GIVENS + step(0, 0, 1, "+0"))
+    case("a literal too many", "refused 18 at 2", GIVENS + step(0, 0, 1, "+0"))
+    rules, sheet, _ = WORKED["irregular"]
+    for words, number in [("+1", 12), ("+1 +2 -7", 18), ("+1 -7", 12)]:
+        case(f"{words} for +1 +2", f"refused {number} at 2", sheet[:48] + step(0, 0, 1, words), rules)
     case("a line beyond the table", "refused 13 at 1", given(0, "+0") + given(2, "-0"))
     case("an empty table", "refused 13 at 0", rules=b"")
     case("another clause than the line's", "refused 14 at 1", given(0, "+0") + given(1, "+0"))

@@ -21,16 +21,20 @@ pub struct Around<'a> {
     pub every_slot_holds_a_node: bool,
 }
 
-/// "the first bad record answers, with the smallest number that applies."
+/// The numbers that a record can get, in the order in which they are tried:
+/// document 01's order, and "18 is tried right after 12."
+const TRIED: [u32; 11] = [6, 7, 8, 9, 10, 11, 12, 18, 13, 14, 15];
+
+/// "the first bad record answers", with the first number that applies.
 pub fn judge(bytes: &[u8], faults: &BTreeSet<u32>) -> Result<Record, u32> {
-    match faults.first() {
+    match TRIED.iter().find(|&number| faults.contains(number)) {
         Some(&number) => Err(number),
         None => Ok(Record::read(bytes).expect("a faultless record reads")),
     }
 }
 
-/// All numbers of the table that apply, so that "the smallest" is plain to see
-/// and no order of checking is hidden in the code.
+/// All numbers of the table that apply, so that no order of checking is hidden
+/// in the code.
 pub fn faults(bytes: &[u8], around: &Around) -> BTreeSet<u32> {
     let Some(record) = Record::read(bytes) else {
         return BTreeSet::from([6]);
@@ -82,7 +86,8 @@ fn given_faults(line: usize, clause: &Clause, rules: &[u8]) -> BTreeSet<u32> {
 }
 
 /// "8 pivot over 63", "11 +p missing on the left or -p on the right",
-/// "12 written clause isn't the result".
+/// "12 now means that the written clause lacks a literal of the result; a new 18
+/// means that it lacks none but has at least one too many."
 fn step_faults(pivot: u8, left: &Named, right: &Named, written: &Clause) -> BTreeSet<u32> {
     let mut faults = BTreeSet::new();
     if pivot > 63 {
@@ -94,8 +99,11 @@ fn step_faults(pivot: u8, left: &Named, right: &Named, written: &Clause) -> BTre
         if !left.holds(Literal::Plus(pivot)) || !right.holds(Literal::Minus(pivot)) {
             faults.insert(11);
         }
-        if resolve(pivot, left, right) != *written {
+        let result = resolve(pivot, left, right);
+        if !result.is_within(written) {
             faults.insert(12);
+        } else if *written != result {
+            faults.insert(18);
         }
     }
     faults

@@ -50,7 +50,7 @@ use Rattle.sheet.specs.Editions.{narrow}
 use Rattle.sheet.specs.Records.{given, step, Record, node, drop}
 use Rattle.sheet.specs.Fields.{sheetBytes}
 use Rattle.demands.specs.Cases.{Case, presses, replays, ruleTable, junk, dirty, allRight}
-use Rattle.demands.specs.Starred.{accepts, replayed, pairRules, pair}
+use Rattle.demands.specs.Starred.{accepts, refuses, replayed, pairRules, pair, irregularRules, irregular}
 "#;
 
 pub fn starred() -> String {
@@ -131,6 +131,15 @@ pub fn telling() -> String {
     for (why, worked) in &refused {
         page += &records_of(why, worked.name, &worked.records);
     }
+    let wrong = [
+        ("a literal of the result is lost: 12", lost()),
+        ("a literal is added to the result: 18, also in a full row", added()),
+        ("one is lost and one is added: 12", lost_and_added()),
+    ];
+    for (why, worked) in &wrong {
+        let body = format!(" set irregular 2 ({})", record(&worked.records[2]));
+        page += &define(why, worked.name, "List Record", &body);
+    }
     page += &format!(
         "\nunfoldable pub oneRule : List Literals\noneRule = {}\n",
         literals_of(&["+0"])
@@ -142,6 +151,10 @@ pub fn telling() -> String {
             .iter()
             .map(|(_, worked)| replays(worked, "oneRule", 1)),
     );
+    for (_, worked) in &wrong {
+        cases.push(refuses(worked, "irregularRules"));
+        cases.push(replays(worked, "irregularRules", 2));
+    }
     cases.extend([
         presses(&pair(), "pairRules", 119, 2),
         presses(&pair(), "pairRules", 120, 1),

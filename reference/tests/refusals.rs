@@ -80,8 +80,17 @@ fn pivots_and_results() {
     refused_by_both(&pair_with(&[(2, 1, 1)]), &rules, (11, 2));
     refused_by_both(&pair_with(&[(2, 2, 1)]), &rules, (11, 2));
     refused_by_both(&pair_with(&[(2, 4, 0)]), &rules, (11, 2));
-    refused_by_both(&pair_with(&[(2, 23, 0x80)]), &rules, (12, 2));
-    refused_by_both(&pair_with(&[(2, 8, 1)]), &rules, (12, 2));
+    refused_by_both(&pair_with(&[(2, 23, 0x80)]), &rules, (18, 2));
+    refused_by_both(&pair_with(&[(2, 8, 1)]), &rules, (18, 2));
+}
+
+#[test]
+fn what_is_wrong_with_a_clause() {
+    for (worked, number) in wrong_results().iter().zip([12, 18, 12]) {
+        refused_by_both(&worked.sheet(), &worked.table(), (number, 2));
+    }
+    let (sheet, rules) = added().bytes();
+    assert_eq!(replay_answer(&sheet, &rules, 2), Err((18, 2)));
 }
 
 #[test]
@@ -94,7 +103,7 @@ fn rule_lines() {
 }
 
 #[test]
-fn the_first_bad_record_answers_with_its_smallest_number() {
+fn the_first_bad_record_answers_with_its_first_number() {
     let rules = pair().table();
     let two_records = pair_with(&[(1, 8, 1), (2, 0, 0)]);
     refused_by_both(&two_records, &rules, (14, 1));
@@ -106,7 +115,7 @@ fn the_first_bad_record_answers_with_its_smallest_number() {
 }
 
 #[test]
-fn fifteen_is_the_largest_number_of_a_record() {
+fn fifteen_is_tried_last() {
     let rules = pair().table();
     assert_eq!(
         replay_answer(&pair_with(&[(0, 6, 1)]), &rules, 0),
@@ -114,7 +123,7 @@ fn fifteen_is_the_largest_number_of_a_record() {
     );
     assert_eq!(
         replay_answer(&pair_with(&[(2, 8, 1)]), &rules, 2),
-        Err((12, 2))
+        Err((18, 2))
     );
     assert_eq!(
         replay_answer(&pair_with(&[(2, 0, 9)]), &rules, 2),

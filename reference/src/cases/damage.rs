@@ -59,7 +59,18 @@ fn spoil_step(rng: &mut Rng, bytes: &mut [u8], record: usize) {
             put_number(bytes, 2, right);
             put_number(bytes, 4, left);
         }
+        6 => lose_bit(rng, &mut bytes[8..24]),
         _ => flip_bit(rng, &mut bytes[8..24]),
+    }
+}
+
+/// A literal lost, if there is one.
+fn lose_bit(rng: &mut Rng, bytes: &mut [u8]) {
+    let held = |bit: &usize| bytes[bit / 8] >> (bit % 8) & 1 == 1;
+    let bits: Vec<usize> = (0..8 * bytes.len()).filter(held).collect();
+    if !bits.is_empty() {
+        let bit = rng.pick(&bits);
+        bytes[bit / 8] ^= 1 << (bit % 8);
     }
 }
 

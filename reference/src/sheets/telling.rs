@@ -1,6 +1,7 @@
 //! Sheets for what the starred ones do not tell apart: "Slips that look right",
 //! and what the passes and the checks can come to.
 
+use super::starred::irregular;
 use super::{dropped, given, step, Worked};
 
 /// The right premise of a step has two uses and the left one has one.
@@ -224,4 +225,30 @@ pub fn unmarked() -> Worked {
         step(0, 0, 1, ""),
     ];
     Worked::new("unmarked", &["+0", "-0", "+5"], &records)
+}
+
+/// *irregular*, whose record 2 has another clause than {+1,+2}.
+fn irregular_with(name: &'static str, clause: &str) -> Worked {
+    let mut worked = irregular();
+    worked.records[2] = step(0, 0, 1, clause);
+    Worked { name, ..worked }
+}
+
+/// A literal of the result is lost: 12.
+pub fn lost() -> Worked {
+    irregular_with("lost", "+1")
+}
+
+/// A literal is added to the result: 18.
+pub fn added() -> Worked {
+    irregular_with("added", "+1 +2 -7")
+}
+
+/// One is lost and one is added: 12.
+pub fn lost_and_added() -> Worked {
+    irregular_with("lostAndAdded", "+1 -7")
+}
+
+pub fn wrong_results() -> [Worked; 3] {
+    [lost(), added(), lost_and_added()]
 }

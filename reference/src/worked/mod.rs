@@ -20,6 +20,7 @@ pub fn entries() -> Vec<Entry> {
         records::lengths(),
         records::fields(),
         records::full_row(),
+        records::results(),
         records::rule_lines(),
         records::drops(),
         records::ends(),

@@ -1,11 +1,11 @@
 //! The table under "When the gate stays shut", its order, and drop records.
 
-use super::{both, both_of, pair_with, press, press_in, pressed, replay};
+use super::{both, both_of, pair_with, press, press_in, pressed, replay, replay_sheet};
 use crate::lengths::RECORD;
 use crate::record::Record;
 use crate::sheets::starred::{lone, pair};
-use crate::sheets::telling::bad_drop;
-use crate::sheets::{dropped, given, rules, sheet, step};
+use crate::sheets::telling::{added, bad_drop, wrong_results};
+use crate::sheets::{dropped, given, rules, sheet, step, Worked};
 use crate::stream::Entry;
 
 /// "Checks 1 to 5 come first, in number order, and report record 0."
@@ -31,7 +31,7 @@ pub fn lengths() -> Vec<Entry> {
     .concat()
 }
 
-/// "The first bad record answers, with the smallest number that applies."
+/// "The first bad record answers", with the first number that applies.
 pub fn fields() -> Vec<Entry> {
     let table = pair().table();
     let spoilt: [&[(usize, usize, u8)]; 25] = [
@@ -53,7 +53,7 @@ pub fn fields() -> Vec<Entry> {
         &[(2, 1, 1)],
         &[(2, 2, 1)],
         &[(2, 4, 0)],
-        // 12: a literal too many
+        // 18: a literal too many
         &[(2, 23, 0x80)],
         &[(2, 8, 1)],
         // 13, which keeps 14 from being looked at
@@ -82,6 +82,15 @@ pub fn full_row() -> Vec<Entry> {
         replay(&pair_with(&[(2, 0, 9)]), &table, 2),
         replay(&pair_with(&[]), &table, 2),
     ]
+}
+
+/// What is wrong with a clause: a literal lost, one added, both.
+pub fn results() -> Vec<Entry> {
+    let of = |worked: &Worked| both_of(worked, 9);
+    let mut entries: Vec<Entry> = wrong_results().iter().flat_map(of).collect();
+    // a full row does not hide 18
+    entries.push(replay_sheet(&added(), 2));
+    entries
 }
 
 pub fn rule_lines() -> Vec<Entry> {
