@@ -21,22 +21,23 @@ extern "C" {
 
 /* The answer: 0, or the first of these that applies. 1 to 5 report record 0, 16 the count of records. */
 #define TEMPUQUILE_OK 0
-#define TEMPUQUILE_RAGGED 1         /* the sheet's length is no multiple of 24 */
-#define TEMPUQUILE_EMPTY 2          /* the sheet is empty */
-#define TEMPUQUILE_LONG 3           /* over 512 records (press), over 1,023 (replay) */
-#define TEMPUQUILE_TABLE 4          /* the rule table's length is no multiple of 16, or it has over 1,024 lines */
-#define TEMPUQUILE_ROOM 5           /* press: out is under 48 N - 24 bytes for N records, or marks are fewer than the rule lines */
-#define TEMPUQUILE_KIND 6           /* unknown kind; for the press a drop too */
-#define TEMPUQUILE_NOT_ZERO 7       /* a byte that must be zero isn't */
-#define TEMPUQUILE_PIVOT 8          /* pivot over 63 */
-#define TEMPUQUILE_NOT_EARLIER 9    /* a named node isn't earlier */
-#define TEMPUQUILE_DROPPED 10       /* replay: a named node was dropped */
-#define TEMPUQUILE_PIVOT_MISSING 11 /* +p is missing on the left or -p on the right */
-#define TEMPUQUILE_NOT_RESULT 12    /* the written clause isn't the result */
-#define TEMPUQUILE_NO_LINE 13       /* rule line beyond the table */
-#define TEMPUQUILE_LINE_DIFFERS 14  /* the given clause differs from its rule line */
-#define TEMPUQUILE_FULL 15          /* replay: a node record, and every slot holds a node */
-#define TEMPUQUILE_NOT_HELD 16      /* replay: at the end the last node isn't held */
+#define TEMPUQUILE_RAGGED 1            /* the sheet's length is no multiple of 24 */
+#define TEMPUQUILE_EMPTY 2             /* the sheet is empty */
+#define TEMPUQUILE_LONG 3              /* over 512 records (press), over 1,023 (replay) */
+#define TEMPUQUILE_TABLE 4             /* the rule table's length is no multiple of 16, or it has over 1,024 lines */
+#define TEMPUQUILE_ROOM 5              /* press: out is under 48 N - 24 bytes for N records, or marks are fewer than the rule lines */
+#define TEMPUQUILE_KIND 6              /* unknown kind; for the press a drop too */
+#define TEMPUQUILE_NOT_ZERO 7          /* a byte that must be zero isn't */
+#define TEMPUQUILE_PIVOT 8             /* pivot over 63 */
+#define TEMPUQUILE_NOT_EARLIER 9       /* a named node isn't earlier */
+#define TEMPUQUILE_DROPPED 10          /* replay: a named node was dropped */
+#define TEMPUQUILE_PIVOT_MISSING 11    /* +p is missing on the left or -p on the right */
+#define TEMPUQUILE_LITERAL_MISSING 12  /* the written clause lacks a literal of the result */
+#define TEMPUQUILE_LITERAL_TOO_MANY 18 /* it lacks none but has at least one too many; tried right after 12 */
+#define TEMPUQUILE_NO_LINE 13          /* rule line beyond the table */
+#define TEMPUQUILE_LINE_DIFFERS 14     /* the given clause differs from its rule line */
+#define TEMPUQUILE_FULL 15             /* replay: a node record, and every slot holds a node */
+#define TEMPUQUILE_NOT_HELD 16         /* replay: at the end the last node isn't held */
 
 /* The words of a press's report. A set is a word whose bit v is variable v. */
 #define TEMPUQUILE_PRESS_RECORD 0

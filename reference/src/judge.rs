@@ -23,7 +23,7 @@ pub struct Around<'a> {
 
 /// The numbers that a record can get, in the order in which they are tried:
 /// document 01's order, and "18 is tried right after 12."
-const TRIED: [u32; 11] = [6, 7, 8, 9, 10, 11, 12, 18, 13, 14, 15];
+pub const TRIED: [u32; 11] = [6, 7, 8, 9, 10, 11, 12, 18, 13, 14, 15];
 
 /// "the first bad record answers", with the first number that applies.
 pub fn judge(bytes: &[u8], faults: &BTreeSet<u32>) -> Result<Record, u32> {

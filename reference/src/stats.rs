@@ -3,11 +3,13 @@
 
 use crate::cases::{draw, Case, Size};
 use crate::events::{pass_events, Event};
+use crate::judge::TRIED;
 use crate::lengths::{room_needed, LINE, PRESS_RECORDS, RECORD, REPLAY_RECORDS, RULE_LINES};
 use crate::press::{press, read_proof, record_faults, run_passes};
 use crate::record::Record;
 use crate::replay::{replay_watched, step, step_faults, Slot, Tally};
 use std::collections::{BTreeMap, BTreeSet};
+use std::iter;
 
 #[derive(Default)]
 pub struct Stats {
@@ -71,7 +73,7 @@ impl Stats {
         match replay_watched(sheet, rules, &mut row, |tally, row| seen.note(tally, row)) {
             Err(refusal) => {
                 *self.replay.entry(refusal.number).or_default() += 1;
-                if (6..16).contains(&refusal.number) {
+                if TRIED.contains(&refusal.number) {
                     self.count_together(replay_faults_at(sheet, rules, slots, refusal.record));
                 }
             }
@@ -93,7 +95,7 @@ impl Stats {
         }
     }
 
-    /// Several numbers applying at once is what "the smallest" is about.
+    /// Several numbers applying at once is what the order of the checks is about.
     fn count_together(&mut self, numbers: BTreeSet<u32>) {
         if numbers.len() > 1 {
             *self.together.entry(numbers).or_default() += 1;
@@ -103,7 +105,7 @@ impl Stats {
     /// The table that `reference stats` prints.
     pub fn table(&self) -> String {
         let mut table = String::from("number        press   replay\n");
-        for number in 0..=16 {
+        for number in iter::once(ACCEPTED).chain(numbers()) {
             let name = match number {
                 ACCEPTED => "accepted".to_string(),
                 _ => format!("refused {number}"),
@@ -125,11 +127,16 @@ impl Stats {
 
     /// Numbers that never occurred although the call can answer them.
     pub fn missing(&self) -> Vec<String> {
-        let press = (1..=14).filter(|n| *n != 10 && !self.press.contains_key(n));
-        let replay = (1..=16).filter(|n| *n != 5 && !self.replay.contains_key(n));
+        let press = numbers().filter(|n| ![10, 15, 16].contains(n) && !self.press.contains_key(n));
+        let replay = numbers().filter(|n| *n != 5 && !self.replay.contains_key(n));
         let press = press.map(|n| format!("press {n}"));
         press.chain(replay.map(|n| format!("replay {n}"))).collect()
     }
+}
+
+/// Every number of a refusal, in the order in which they are tried.
+fn numbers() -> impl Iterator<Item = u32> {
+    (1..=5).chain(TRIED).chain([16])
 }
 
 /// What a watched replay showed.

@@ -133,7 +133,10 @@ pub fn telling() -> String {
     }
     let wrong = [
         ("a literal of the result is lost: 12", lost()),
-        ("a literal is added to the result: 18, also in a full row", added()),
+        (
+            "a literal is added to the result: 18, also in a full row",
+            added(),
+        ),
         ("one is lost and one is added: 12", lost_and_added()),
     ];
     for (why, worked) in &wrong {

@@ -1,5 +1,5 @@
-// Judging: "Checks 1 to 5 come first, in number order, and report record 0. Then records in order: the first bad record answers, with the
-// smallest number that applies."
+// Judging: "Checks 1 to 5 come first, in number order, and report record 0. Then records in order: the first bad record answers",
+// with the first number that applies.
 ghost use mathlib.Core.Path.{_≡_};
 ghost use Prim.Native.Nat.{ℕ, _*_, _/_, _<_, _≤_};
 ghost use mathlib.Core.List.{List};

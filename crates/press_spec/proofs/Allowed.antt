@@ -7,7 +7,7 @@ use mathlib.Core.Logic.{_≢_, _⊎_, inl, inr}
 use mathlib.Core.List.{List}
 use native.Mathlib.Omega.{arith}
 use lib.ListN.{length, length-map}
-use Rattle.clause.specs.Clauses.{Literal, Literals, plus, minus, holds, adding, resolvent}
+use Rattle.clause.specs.Clauses.{Literal, Literals, plus, minus, holds, adding, resolvent, Within}
 use Rattle.sheet.specs.Editions.{Edition}
 use Rattle.sheet.specs.Records.{Node, given, step, clause, nodeAt}
 use Rattle.press_spec.specs.Links.{Link, leaf, join, link, links, linkAt}
@@ -15,7 +15,7 @@ use Rattle.press_spec.specs.Recycle.{Cut, cutLeft, cutRight, uncut, Fate
 use Rattle.press_spec.specs.Rebuild.{Built, standIn, standing, takeLeft, takeRight, stepAnew, wayOf}
 use Rattle.press_spec.proofs.Proper.{ProperNode, AllProper}
 use Rattle.press_spec.proofs.Nodes.{link-at, by-rising}
-use Rattle.press_spec.proofs.Literals.{Within, literal-same, in-adding, adding-keeps, in-resolvent, resolvent-left, resolvent-right}
+use Rattle.press_spec.proofs.Literals.{literal-same, in-adding, adding-keeps, in-resolvent, resolvent-left, resolvent-right}
 use Rattle.press_spec.proofs.Rebuilt.{ByWay, Renewed, Rebuilding, EdgesKept, ParentsKept, Closed}
 
 -- ---- what the sets and the cuts of a pass have to do with each other, however they were found

@@ -5,7 +5,7 @@ use mathlib.Core.Logic.{inl, inr}
 use mathlib.Core.List.{List}
 use native.Mathlib.Omega.{arith}
 use lib.ListN.{length, length-map}
-use Rattle.clause.specs.Clauses.{Literals, none}
+use Rattle.clause.specs.Clauses.{Literals, none, Within}
 use Rattle.sheet.specs.Editions.{Edition}
 use Rattle.sheet.specs.Records.{Node, clause, nodeAt}
 use Rattle.press_spec.specs.Links.{link, links, sink, Parents}
@@ -16,7 +16,6 @@ use Rattle.press_spec.specs.Order.{orderFrom, laid}
 use Rattle.press_spec.specs.Press.{conclusion, recycled, arranged, pressedFrom, pressed}
 use Rattle.press_spec.proofs.Proper.{ProperNode, AllProper, Kept}
 use Rattle.press_spec.proofs.Nodes.{link-at, links-falling, proper-falling}
-use Rattle.press_spec.proofs.Literals.{Within}
 use Rattle.press_spec.proofs.Rebuilt.{Rebuilding, rebuilt, IsKept, StandsIn, standIn-sound, standIn-below}
 use Rattle.press_spec.proofs.Allowed.{Allowed, allowed-closed, standing-within}
 use Rattle.press_spec.proofs.Recycled.{Fair, reset-fair, setsIn, recycle-allowed, recycle-keeps, recycle-starts}

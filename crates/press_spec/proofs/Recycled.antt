@@ -12,12 +12,12 @@ use lib.Seq.{getD-set-same, getD-set-other}
 use borrow.Author.Tests.{ltb-true}
 use Rattle.base.proofs.Folds.{fall-by}
 use Rattle.base.proofs.Lists.{getD-blank}
-use Rattle.clause.specs.Clauses.{Literals, plus, minus, none, holds, adding}
+use Rattle.clause.specs.Clauses.{Literals, plus, minus, none, holds, adding, Within}
 use Rattle.press_spec.specs.Links.{Link, leaf, join, linkAt}
 use Rattle.press_spec.specs.Trim.{trim, usesIn, usesFrom}
 use Rattle.press_spec.specs.Recycle.{Reach, unreached, reached, Fit, reset, hand, Cut, cutLeft, cutRight, uncut, cutOf, handOn, visit, recycleTurn, recycle, kept, fate, fates}
 use Rattle.press_spec.proofs.Nodes.{Falling}
-use Rattle.press_spec.proofs.Literals.{Within, in-none}
+use Rattle.press_spec.proofs.Literals.{in-none}
 use Rattle.press_spec.proofs.Trimmed.{Marked, trim-keeps, trim-closed, usesAfter, uses-fewer, uses-all, uses-here, uses-left, uses-right, uses-both}
 use Rattle.press_spec.proofs.Rebuilt.{IsKept}
 use Rattle.press_spec.proofs.Allowed.{Gets, EdgesAllowed, LinkAllowed, Allowed}

@@ -1,22 +1,23 @@
 -- A record stops the judging for exactly the first reason that applies to it.
 use Prim.Native.Nat.{ℕ}
 use mathlib.Core.Path.{_≡_, refl, sym, ap, _∙_}
-use mathlib.Core.Bool.{Bool, true, false, _&&_, cond, false≢true}
+use mathlib.Core.Bool.{Bool, true, false, not, _&&_, _||_, cond, false≢true}
 use mathlib.Core.List.{List, map}
 use native.Mathlib.Omega.{arith}
 use native.Mathlib.Decide.{ℕ-discrete}
 use lib.Dec.{eqb, ltb}
 use lib.ListN.{length}
 use borrow.Author.Tests.{eq-eqb, ne-eqb}
+use Rattle.clause.specs.Clauses.{Literals, plus, minus, holds, inside, resolvent}
 use Rattle.sheet.specs.declared.Reason.{Reason}
-use Rattle.sheet.specs.declared.Reason.the-variants.{Kind, NotZero, Pivot, NotEarlier, Dropped, PivotMissing, NotResult, Full}
+use Rattle.sheet.specs.declared.Reason.the-variants.{Kind, NotZero, Pivot, NotEarlier, Dropped, PivotMissing, LiteralMissing, LiteralTooMany, Full}
 use Rattle.sheet.specs.declared.Verdict.{Verdict}
 use Rattle.sheet.specs.declared.Verdict.the-variants.{Fine, Refused}
 use Rattle.sheet.specs.Editions.{Edition, variables}
 use Rattle.sheet.specs.Reasons.{unless, andThen}
 use Rattle.sheet.specs.Records.{Node, given, step, node, reads, unread, clause, nodeAt}
 use Rattle.sheet.specs.Fields.{Fields, fieldsOf, whenZero, readGiven, readStep, readDrop, readFields, reading}
-use Rattle.sheet.specs.Checks.{checkEarlier, checkStep, checkGiven}
+use Rattle.sheet.specs.Checks.{checkEarlier, checkResult, checkStep, checkGiven}
 use Rattle.sheet.specs.Refusals.{Place, Applies, RefusedFor}
 use Rattle.sheet.proofs.Refused.{chain, Tells}
 use Rattle.sheet.proofs.Applied.{never, givenTests, given-tried, stepTests, step-tried, other-tried}
@@ -34,15 +35,19 @@ unfolding byVerdict
 stops-verdict n v why q = rw q
 
 -- the two looks at earlier nodes are one test; nothing is dropped, and no slot is needed
-module _ (a b x y : Bool) where
+module _ (a b x y z : Bool) where
   abbrev looks : Verdict
-  looks = andThen (unless a NotEarlier Fine) (andThen (unless b NotEarlier Fine) (unless x PivotMissing (unless y NotResult Fine)))
+  looks =
+      andThen (unless a NotEarlier Fine)
+      (andThen (unless b NotEarlier Fine) (unless x PivotMissing (unless y LiteralMissing (unless z LiteralTooMany Fine))))
 
-looks-once : (a b x y : Bool) → looks a b x y ≡ unless (a && b) NotEarlier (unless x PivotMissing (unless y NotResult Fine))
+looks-once : (a b x y z : Bool)
+    → looks a b x y z ≡ unless (a && b) NotEarlier (unless x PivotMissing (unless y LiteralMissing (unless (not y || z) LiteralTooMany Fine)))
 unfolding andThen unless
-looks-once true true x y = refl
-looks-once true false x y = refl
-looks-once false b x y = refl
+looks-once true true x true z = refl
+looks-once true true x false z = refl
+looks-once true false x y z = refl
+looks-once false b x y z = refl
 
 module _ (e : Edition) (rules : List ℕ) (s : List Node) (f : Fields) where
   abbrev place : Place
@@ -73,14 +78,25 @@ module _ (e : Edition) (rules : List ℕ) (s : List Node) (f : Fields) where
   abbrev stepHere : Node
   stepHere = step (f .pivot) (f .left) (f .right) (f .clause)
 
+  abbrev left : Literals
+  left = clause (nodeAt s (f .left))
+
+  abbrev right : Literals
+  right = clause (nodeAt s (f .right))
+
+  abbrev lacksNone : Bool
+  lacksNone = inside (resolvent (f .pivot) left right) (f .clause)
+
   step-checks : checkNode e rules s stepHere
       ≡ unless (ltb (f .left) (length s) && ltb (f .right) (length s)) NotEarlier
-      (checkStep (f .pivot) (clause (nodeAt s (f .left))) (clause (nodeAt s (f .right))) (f .clause))
-  unfolding checkNode checkEarlier checkStep
-  step-checks = looks-once _ _ _ _
+      (unless (holds (plus (f .pivot)) left && holds (minus (f .pivot)) right) PivotMissing
+      (unless lacksNone LiteralMissing
+      (unless (not lacksNone || inside (f .clause) (resolvent (f .pivot) left right)) LiteralTooMany Fine)))
+  unfolding checkNode checkEarlier checkStep checkResult
+  step-checks = looks-once _ _ _ _ _
 
   step-chain : f .kind ≡ 2 → stopped ≡ byVerdict stepHere (chain (stepTests place f true true))
-  unfolding readFields readStep chain unless checkStep
+  unfolding readFields readStep chain unless
   step-chain k =
       rw (ne-eqb (f .kind) 1 (λ i. omega arith), eq-eqb (f .kind) 2 k, nodes-alone s)
       (pivot-next stepHere (eqb (f .line) 0) (ltb (f .pivot) (variables e))

@@ -9,16 +9,16 @@ use native.Mathlib.Decide.{ℕ-discrete}
 use lib.Dec.{eqb, ltb}
 use lib.ListN.{length}
 use borrow.Author.Tests.{eq-eqb, ne-eqb, ltb-true, ltb-false, lt-ltb}
-use Rattle.clause.specs.Clauses.{Literals, plus, minus, holds, alike, resolvent}
+use Rattle.clause.specs.Clauses.{Literals, plus, minus, holds, inside, alike, resolvent}
 use Rattle.sheet.specs.declared.Reason.{Reason}
-use Rattle.sheet.specs.declared.Reason.the-variants.{Kind, NotZero, Pivot, NotEarlier, Dropped, PivotMissing, NotResult, NoLine, LineDiffers, Full}
+use Rattle.sheet.specs.declared.Reason.the-variants.{Kind, NotZero, Pivot, NotEarlier, Dropped, PivotMissing, LiteralMissing, LiteralTooMany, NoLine, LineDiffers, Full}
 use Rattle.sheet.specs.declared.Verdict.{Verdict}
 use Rattle.sheet.specs.declared.Verdict.the-variants.{Fine, Refused}
 use Rattle.sheet.specs.Editions.{Edition, variables}
 use Rattle.sheet.specs.Reasons.{unless, andThen}
 use Rattle.sheet.specs.Records.{given, step, Record, node, drop, reads, unread}
 use Rattle.sheet.specs.Fields.{Fields, fieldsOf, whenZero, readGiven, readStep, readDrop, readFields, reading, ruleLines, ruleLine}
-use Rattle.sheet.specs.Checks.{checkEarlier, checkStep, checkGiven}
+use Rattle.sheet.specs.Checks.{checkEarlier, checkResult, checkStep, checkGiven}
 use Rattle.sheet.specs.Counts.{nodesOf}
 use Rattle.sheet.specs.Proper.{recordIn, clauseIn}
 use Rattle.sheet.specs.Refusals.{Place, Names, Applies, RefusedFor}
@@ -53,34 +53,36 @@ given-once false b r = refl
 abbrev kept : Bool → Bool → Bool
 kept held earlier = held || not earlier
 
-resolved-once : (x y r : Bool)
-    → andThen (unless x PivotMissing (unless y NotResult Fine)) (andThen (unless r Full Fine) Fine)
-    ≡ unless x PivotMissing (unless y NotResult (unless r Full Fine))
+resolved-once : (x y z r : Bool)
+    → andThen (unless x PivotMissing (unless y LiteralMissing (unless z LiteralTooMany Fine))) (andThen (unless r Full Fine) Fine)
+    ≡ unless x PivotMissing (unless y LiteralMissing (unless (not y || z) LiteralTooMany (unless r Full Fine)))
 unfolding andThen unless
-resolved-once true true true = refl
-resolved-once true true false = refl
-resolved-once true false r = refl
-resolved-once false y r = refl
+resolved-once true true true true = refl
+resolved-once true true true false = refl
+resolved-once true true false r = refl
+resolved-once true false z r = refl
+resolved-once false y z r = refl
 
 -- l and r are earlier (a, b), held (c, d); the clauses that are held are the parents'
-module _ (r x y x′ y′ : Bool) where
-  step-once : (a b c d : Bool) → (c ≡ true → d ≡ true → (x ≡ x′) × (y ≡ y′))
+module _ (r x y z x′ y′ z′ : Bool) where
+  step-once : (a b c d : Bool) → (c ≡ true → d ≡ true → (x ≡ x′) × (y ≡ y′) × (z ≡ z′))
       → firstOf
       (unless a NotEarlier Fine
       ∷ unless b NotEarlier Fine
       ∷ unless c Dropped Fine
       ∷ unless d Dropped Fine
-      ∷ unless x PivotMissing (unless y NotResult Fine)
+      ∷ unless x PivotMissing (unless y LiteralMissing (unless z LiteralTooMany Fine))
       ∷ unless r Full Fine
       ∷ [])
       ≡ unless (a && b) NotEarlier
-      (unless (kept c a && kept d b) Dropped (unless x′ PivotMissing (unless y′ NotResult (unless r Full Fine))))
+      (unless (kept c a && kept d b) Dropped (unless x′ PivotMissing
+      (unless y′ LiteralMissing (unless (not y′ || z′) LiteralTooMany (unless r Full Fine)))))
   unfolding firstOf andThen unless
   step-once false b c d f = refl
   step-once true false c d f = refl
   step-once true true false d f = refl
   step-once true true true false f = refl
-  step-once true true true true f = let z = f refl refl in rw (z .0, z .1) (resolved-once x′ y′ r)
+  step-once true true true true f = let same = f refl refl in rw (same .0, same .1, same .2) (resolved-once x′ y′ z′ r)
 
 drop-once : (a c : Bool) → firstOf (unless a NotEarlier Fine ∷ unless c Dropped Fine ∷ []) ≡ unless a NotEarlier (unless (kept c a) Dropped Fine)
 unfolding firstOf andThen unless
@@ -214,8 +216,11 @@ module _ (e : Edition) (rules : List ℕ) (rs : List Record) (s : State) (m : Mi
   abbrev pivoted : Literals → Literals → Bool
   pivoted l r = holds (plus (f .pivot)) l && holds (minus (f .pivot)) r
 
-  abbrev written : Literals → Literals → Bool
-  written l r = alike (f .clause) (resolvent (f .pivot) l r)
+  abbrev lacksNone : Literals → Literals → Bool
+  lacksNone l r = inside (resolvent (f .pivot) l r) (f .clause)
+
+  abbrev hasNoMore : Literals → Literals → Bool
+  hasNoMore l r = inside (f .clause) (resolvent (f .pivot) l r)
 
   abbrev left : Literals
   left = clauseIn rs (f .left)
@@ -226,12 +231,14 @@ module _ (e : Edition) (rules : List ℕ) (rs : List Record) (s : State) (m : Mi
   step-checks : checkRecord e rules s stepHere
       ≡ unless (ltb (f .left) next && ltb (f .right) next) NotEarlier
       (unless (keeps (f .left) && keeps (f .right)) Dropped
-      (unless (pivoted left right) PivotMissing (unless (written left right) NotResult (unless (room (s .slots)) Full Fine))))
-  unfolding checkRecord checkEarlier checkHeld checkStep checkRoom
-  step-checks = rw (numbered m) (step-once (room (s .slots)) _ _ (pivoted left right) (written left right) (ltb (f .left) next) (ltb (f .right) next)
+      (unless (pivoted left right) PivotMissing
+      (unless (lacksNone left right) LiteralMissing
+      (unless (not (lacksNone left right) || hasNoMore left right) LiteralTooMany (unless (room (s .slots)) Full Fine)))))
+  unfolding checkRecord checkEarlier checkHeld checkStep checkResult checkRoom
+  step-checks = rw (numbered m) (step-once (room (s .slots)) _ _ _ (pivoted left right) (lacksNone left right) (hasNoMore left right) (ltb (f .left) next) (ltb (f .right) next)
       (held (f .left) (s .slots)) (held (f .right) (s .slots))
       (λ p q. let l = m .clauses (f .left) (m .only (f .left) p) in let r = m .clauses (f .right) (m .only (f .right) q) in
-      (rw (l, r), rw (l, r))))
+      (rw (l, r), rw (l, r), rw (l, r))))
 
   step-chain : f .kind ≡ 2
       → here ≡ byVerdict (chain (stepTests place f (keeps (f .left) && keeps (f .right)) (room (s .slots)))) (after s stepHere)

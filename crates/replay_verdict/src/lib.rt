@@ -34,7 +34,7 @@ fn and_then(v: Verdict, rest: Verdict) -> Verdict
     }
 }
 
-// The smallest number that applies to a record that reads.
+// The first number that applies to a record that reads.
 pub fn check_record(
     rules: &[u8],
     next: NodeNo,

@@ -1,23 +1,23 @@
 -- The tests of a record of each kind, in the order in which they are tried: each fails exactly when its reason applies.
 use Prim.Native.Nat.{ℕ, _<_}
 use mathlib.Core.Path.{_≡_, refl, sym, ap, ap₂, _∙_}
-use mathlib.Core.Bool.{Bool, true, _&&_, true≢false}
-use mathlib.Core.Logic.{inl, inr}
+use mathlib.Core.Bool.{Bool, true, false, not, _&&_, _||_, true≢false}
+use mathlib.Core.Logic.{_⊎_, inl, inr}
 use mathlib.Core.List.{List, [], _∷_}
 use native.Mathlib.Omega.{arith}
 use lib.Dec.{eqb, ltb}
 use lib.ListN.{length}
 use borrow.Author.Tests.{eqb-true, eq-eqb, ltb-true, ltb-false, lt-ltb}
-use Rattle.clause.specs.Clauses.{Literals, literals, plus, minus, holds, alike, resolvent}
-use Rattle.clause.proofs.Clauses.{alike-same, alike-self}
+use Rattle.clause.specs.Clauses.{Literals, literals, plus, minus, holds, Within, inside, alike}
+use Rattle.clause.proofs.Clauses.{alike-same, alike-self, inside-of, inside-holds, inside-same}
 use Rattle.sheet.specs.declared.Reason.{Reason}
-use Rattle.sheet.specs.declared.Reason.the-variants.{Kind, NotZero, Pivot, NotEarlier, Dropped, PivotMissing, NotResult, NoLine, LineDiffers, Full}
+use Rattle.sheet.specs.declared.Reason.the-variants.{Kind, NotZero, Pivot, NotEarlier, Dropped, PivotMissing, LiteralMissing, LiteralTooMany, NoLine, LineDiffers, Full}
 use Rattle.sheet.specs.declared.Verdict.the-variants.{Refused}
 use Rattle.sheet.specs.Editions.{variables}
 use Rattle.sheet.specs.Fields.{Fields, ruleLines, ruleLine}
 use Rattle.sheet.specs.Counts.{nodesOf}
 use Rattle.sheet.specs.Proper.{clauseIn}
-use Rattle.sheet.specs.Refusals.{Place, Names, Applies, RefusedFor}
+use Rattle.sheet.specs.Refusals.{Place, Names, resultOf, Applies, RefusedFor, OneIsWrong}
 use Rattle.sheet.proofs.Refused.{Test, test, chain, Tells, TellAll, refused-first, first-refused, and-false, and-true}
 
 -- ---- a test that is passed exactly when something holds
@@ -33,6 +33,9 @@ below? a b = (ltb-true a b, lt-ltb a b)
 
 alike? : (a b : Literals) → Decides (alike a b) (a ≡ b)
 alike? a b = (alike-same a b, λ q. rw q (alike-self b))
+
+within? : (a b : Literals) → Decides (inside a b) (Within a b)
+within? a b = (inside-holds a b, inside-of a b)
 
 itself : (b : Bool) → Decides b (b ≡ true)
 itself b = (λ q. q, λ q. q)
@@ -61,6 +64,13 @@ module _ (p : Place) (f : Fields) where
   abbrev right : Literals
   right = clauseIn (p .before) (f .right)
 
+  abbrev result : Literals
+  result = resultOf p f
+
+  -- passed, too, by a clause that lacks a literal: that is found before
+  abbrev pub noneTooMany : Bool
+  noneTooMany = not (inside result (f .clause)) || inside (f .clause) result
+
   -- a record is refused by such tests for the first reason that applies to it
   abbrev pub Tried : List Test → Reason → Type 0
   Tried ts why = (chain ts ≡ Refused why → RefusedFor p f why) × (RefusedFor p f why → chain ts ≡ Refused why)
@@ -75,7 +85,8 @@ module _ (p : Place) (f : Fields) where
       ∷ test true NotEarlier
       ∷ test true Dropped
       ∷ test true PivotMissing
-      ∷ test true NotResult
+      ∷ test true LiteralMissing
+      ∷ test true LiteralTooMany
       ∷ test (ltb (f .line) (ruleLines (p .edition) (p .rules))) NoLine
       ∷ test (alike (f .clause) (ruleLine (p .edition) (p .rules) (f .line))) LineDiffers
       ∷ test room Full
@@ -105,12 +116,15 @@ module _ (p : Place) (f : Fields) where
             (
               never A PivotMissing (λ a. omega (arith, a .0)),
               (
-                never A NotResult (λ a. omega (arith, a .0)),
+                never A LiteralMissing (λ a. omega (arith, a .0)),
                 (
-                  tells A _ NoLine _ (below? (f .line) _) (λ n. (k, omega arith)) (λ a x. omega (arith, a .1)),
+                  never A LiteralTooMany (λ a. omega (arith, a .0)),
                   (
-                    tells A _ LineDiffers _ (alike? (f .clause) _) (λ n. (k, n)) (λ a x. a .1 x),
-                    (slot, tt),
+                    tells A _ NoLine _ (below? (f .line) _) (λ n. (k, omega arith)) (λ a x. omega (arith, a .1)),
+                    (
+                      tells A _ LineDiffers _ (alike? (f .clause) _) (λ n. (k, n)) (λ a x. a .1 x),
+                      (slot, tt),
+                    ),
                   ),
                 ),
               ),
@@ -135,7 +149,8 @@ module _ (p : Place) (f : Fields) where
       ∷ test (ltb (f .left) next && ltb (f .right) next) NotEarlier
       ∷ test kept Dropped
       ∷ test (holds (plus (f .pivot)) left && holds (minus (f .pivot)) right) PivotMissing
-      ∷ test (alike (f .clause) (resolvent (f .pivot) left right)) NotResult
+      ∷ test (inside result (f .clause)) LiteralMissing
+      ∷ test noneTooMany LiteralTooMany
       ∷ test true NoLine
       ∷ test true LineDiffers
       ∷ test room Full
@@ -160,6 +175,17 @@ module _ (p : Place) (f : Fields) where
         ],
   )
 
+  step-too-many : f .kind ≡ 2 → Tells A noneTooMany LiteralTooMany
+  step-too-many k = by (inside result (f .clause)) (inside (f .clause) result) refl refl
+    where
+      by : (u v : Bool) → inside result (f .clause) ≡ u → inside (f .clause) result ≡ v → Tells A (not u || v) LiteralTooMany
+      by true true p q = (λ h. absurd (true≢false h), λ h a. a .2 (inside-holds (f .clause) result q))
+      by true false p q = (
+        λ h. (k, inside-holds result (f .clause) p, λ w. true≢false (sym (inside-of (f .clause) result w) ∙ q)),
+        λ h a. true≢false (sym h),
+      )
+      by false v p q = (λ h. absurd (true≢false h), λ h a. true≢false (sym (inside-of result (f .clause) (a .1)) ∙ p))
+
   step-tells : f .kind ≡ 2 → (kept room : Bool) → Tells A kept Dropped → Tells A room Full → TellAll A (stepTests kept room)
   step-tells k kept room d slot = (
     never A Kind (λ a. a .1 k),
@@ -175,12 +201,15 @@ module _ (p : Place) (f : Fields) where
               tells A _ PivotMissing _ (both _ _ _ _ (itself (holds (plus (f .pivot)) left)) (itself (holds (minus (f .pivot)) right)))
                   (λ n. (k, n)) (λ a x. a .1 x),
               (
-                tells A _ NotResult _ (alike? (f .clause) _) (λ n. (k, n)) (λ a x. a .1 x),
+                tells A _ LiteralMissing _ (within? result (f .clause)) (λ n. (k, n)) (λ a x. a .1 x),
                 (
-                  never A NoLine (λ a. omega (arith, a .0)),
+                  step-too-many k,
                   (
-                    never A LineDiffers (λ a. omega (arith, a .0)),
-                    (slot, tt),
+                    never A NoLine (λ a. omega (arith, a .0)),
+                    (
+                      never A LineDiffers (λ a. omega (arith, a .0)),
+                      (slot, tt),
+                    ),
                   ),
                 ),
               ),
@@ -206,7 +235,8 @@ module _ (p : Place) (f : Fields) where
       ∷ test (ltb (f .left) next) NotEarlier
       ∷ test kept Dropped
       ∷ test true PivotMissing
-      ∷ test true NotResult
+      ∷ test true LiteralMissing
+      ∷ test true LiteralTooMany
       ∷ test true NoLine
       ∷ test true LineDiffers
       ∷ test true Full
@@ -247,12 +277,12 @@ module _ (p : Place) (f : Fields) where
             (
               never A PivotMissing (λ a. omega (arith, a .0)),
               (
-                never A NotResult (λ a. omega (arith, a .0)),
+                never A LiteralMissing (λ a. omega (arith, a .0)),
                 (
-                  never A NoLine (λ a. omega (arith, a .0)),
+                  never A LiteralTooMany (λ a. omega (arith, a .0)),
                   (
-                    never A LineDiffers (λ a. omega (arith, a .0)),
-                    (never A Full (λ a. elim (a .0) [ inl x ↦ omega arith | inr x ↦ omega arith ]), tt),
+                    never A NoLine (λ a. omega (arith, a .0)),
+                    (never A LineDiffers (λ a. omega (arith, a .0)), (never A Full (λ a. elim (a .0) [ inl x ↦ omega arith | inr x ↦ omega arith ]), tt)),
                   ),
                 ),
               ),
@@ -271,3 +301,25 @@ module _ (p : Place) (f : Fields) where
 
   pub other-tried : (why : Reason) → A Kind → (why ≡ Kind → RefusedFor p f why) × (RefusedFor p f why → why ≡ Kind)
   other-tried why a = (λ q. inl (q, a), λ r. elim r [ inl x ↦ x .0 | inr x ↦ absurd (x .0 a) ])
+
+-- ---- what is wrong with a clause
+
+module _ (p : Place) (f : Fields) where
+  abbrev Lacks : Type 0
+  Lacks = Applies p f LiteralMissing
+
+  abbrev Exceeds : Type 0
+  Exceeds = Applies p f LiteralTooMany
+
+  wrong : f .kind ≡ 2 → (f .clause ≡ result p f → ⊥) → (u v : Bool) → inside (result p f) (f .clause) ≡ u → inside (f .clause) (result p f) ≡ v
+      → (Lacks × (Exceeds → ⊥)) ⊎ ((Lacks → ⊥) × Exceeds)
+  wrong k n true true a b = absurd (n (inside-same (f .clause) (result p f) b a))
+  wrong k n true false a b =
+      let all = inside-holds (result p f) (f .clause) a in
+      inr (λ x. x .1 all, (k, all, λ w. true≢false (sym (inside-of (f .clause) (result p f) w) ∙ b)))
+  wrong k n false v a b =
+      let lacks : Within (result p f) (f .clause) → ⊥ = λ w. true≢false (sym (inside-of (result p f) (f .clause) w) ∙ a) in
+      inl ((k, lacks), λ x. lacks (x .1))
+
+pub one-is-wrong : OneIsWrong
+one-is-wrong p f k n = wrong p f k n (inside (result p f) (f .clause)) (inside (f .clause) (result p f)) refl refl

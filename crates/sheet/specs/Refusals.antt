@@ -6,9 +6,9 @@ use mathlib.Core.Bool.{Bool, true}
 use mathlib.Core.Logic.{_⊎_}
 use mathlib.Core.List.{List, [], _∷_}
 use lib.ListN.{length, take}
-use Rattle.clause.specs.Clauses.{none, plus, minus, holds, resolvent}
+use Rattle.clause.specs.Clauses.{plus, minus, Literals, none, holds, Within, resolvent}
 use Rattle.sheet.specs.declared.Reason.{Reason}
-use Rattle.sheet.specs.declared.Reason.the-variants.{Ragged, Empty, Long, Table, Room, Kind, NotZero, Pivot, NotEarlier, Dropped, PivotMissing, NotResult, NoLine, LineDiffers, Full, NotHeld}
+use Rattle.sheet.specs.declared.Reason.the-variants.{Ragged, Empty, Long, Table, Room, Kind, NotZero, Pivot, NotEarlier, Dropped, PivotMissing, LiteralMissing, LiteralTooMany, NoLine, LineDiffers, Full, NotHeld}
 use Rattle.sheet.specs.Editions.{Edition, variables, recordBytes, lineBytes, tableLines}
 use Rattle.sheet.specs.Reasons.{numberOf}
 use Rattle.sheet.specs.Records.{Record, drop, reads}
@@ -54,7 +54,8 @@ LengthApplies z Pivot = ⊥
 LengthApplies z NotEarlier = ⊥
 LengthApplies z Dropped = ⊥
 LengthApplies z PivotMissing = ⊥
-LengthApplies z NotResult = ⊥
+LengthApplies z LiteralMissing = ⊥
+LengthApplies z LiteralTooMany = ⊥
 LengthApplies z NoLine = ⊥
 LengthApplies z LineDiffers = ⊥
 LengthApplies z Full = ⊥
@@ -92,6 +93,10 @@ Zeros f =
     × (f .kind ≡ 2 → f .line ≡ 0)
     × (f .kind ≡ 3 → (f .pivot ≡ 0) × (f .right ≡ 0) × (f .line ≡ 0) × (f .clause ≡ none))
 
+-- the result of a step: the resolvent of its parents' clauses
+abbrev pub resultOf : Place → Fields → Literals
+resultOf p f = resolvent (f .pivot) (clauseIn (p .before) (f .left)) (clauseIn (p .before) (f .right))
+
 abbrev pub Applies : Place → Fields → Reason → Type 0
 -- unknown kind; for the press also kind 3
 Applies p f Kind = (f .kind ≡ 1 → ⊥) × (f .kind ≡ 2 → ⊥) × (p .drops ≡ true → f .kind ≡ 3 → ⊥)
@@ -107,8 +112,10 @@ Applies p f Dropped = (n : ℕ) × Names f n × (k : ℕ) × (k < length (p .bef
 Applies p f PivotMissing =
     (f .kind ≡ 2)
     × ((holds (plus (f .pivot)) (clauseIn (p .before) (f .left)) ≡ true) × (holds (minus (f .pivot)) (clauseIn (p .before) (f .right)) ≡ true) → ⊥)
--- written clause isn't the result
-Applies p f NotResult = (f .kind ≡ 2) × (f .clause ≡ resolvent (f .pivot) (clauseIn (p .before) (f .left)) (clauseIn (p .before) (f .right)) → ⊥)
+-- written clause lacks a literal of the result
+Applies p f LiteralMissing = (f .kind ≡ 2) × (Within (resultOf p f) (f .clause) → ⊥)
+-- it lacks none but has at least one too many
+Applies p f LiteralTooMany = (f .kind ≡ 2) × Within (resultOf p f) (f .clause) × (Within (f .clause) (resultOf p f) → ⊥)
 -- rule line beyond the table
 Applies p f NoLine = (f .kind ≡ 1) × (ruleLines (p .edition) (p .rules) ≤ f .line)
 -- given clause differs from its rule line
@@ -125,11 +132,19 @@ Applies p f NotHeld = ⊥
 
 -- the order in which the checks of a record are tried
 abbrev pub checksInOrder : List Reason
-checksInOrder = Kind ∷ NotZero ∷ Pivot ∷ NotEarlier ∷ Dropped ∷ PivotMissing ∷ NotResult ∷ NoLine ∷ LineDiffers ∷ Full ∷ []
+checksInOrder = Kind ∷ NotZero ∷ Pivot ∷ NotEarlier ∷ Dropped ∷ PivotMissing ∷ LiteralMissing ∷ LiteralTooMany ∷ NoLine ∷ LineDiffers ∷ Full ∷ []
 
 -- a record with these columns is refused for this reason
 abbrev pub RefusedFor : Place → Fields → Reason → Type 0
 RefusedFor p f why = FirstOf (Applies p f) checksInOrder why
+
+-- to a step whose written clause isn't the result exactly one of the two applies
+abbrev pub OneIsWrong : Type 1
+OneIsWrong =
+    (p : Place) (f : Fields)
+    → f .kind ≡ 2
+    → (f .clause ≡ resultOf p f → ⊥)
+    → (Applies p f LiteralMissing × (Applies p f LiteralTooMany → ⊥)) ⊎ ((Applies p f LiteralMissing → ⊥) × Applies p f LiteralTooMany)
 
 -- ---- the answer: the number of the reason, and the record
 

@@ -2,7 +2,7 @@
 ghost use mathlib.Core.Path.{_≡_};
 ghost use Rattle.clause.specs.Denote.{literalsOf};
 ghost use Rattle.sheet.specs.Editions.{narrow};
-ghost use Rattle.sheet.specs.Checks.{checkTable, checkLengths, checkEarlier, checkStep, checkGiven};
+ghost use Rattle.sheet.specs.Checks.{checkTable, checkLengths, checkEarlier, checkResult, checkStep, checkGiven};
 use clause::Clause;
 use sheet::LineNo;
 use sheet::NodeNo;
@@ -47,15 +47,25 @@ pub fn check_earlier(next: NodeNo, n: NodeNo) -> Verdict
     Verdict::Refused(Reason::NotEarlier)
 }
 
-// 11: +p missing on the left or -p on the right. 12: written clause isn't the result.
+// 12: written clause lacks a literal of the result. 18: it lacks none but has at least one too many.
+fn check_result(c: Clause, result: Clause) -> Verdict
+    ensures { λ v. ⌜ v ≡ checkResult (literalsOf c) (literalsOf result) ⌝ }
+{
+    if clause::inside(result, c) {
+        if clause::inside(c, result) {
+            return Verdict::Fine;
+        }
+        return Verdict::Refused(Reason::LiteralTooMany);
+    }
+    Verdict::Refused(Reason::LiteralMissing)
+}
+
+// 11: +p missing on the left or -p on the right.
 pub fn check_step(p: u8, l: Clause, r: Clause, c: Clause) -> Verdict
     ensures { λ v. ⌜ v ≡ checkStep p (literalsOf l) (literalsOf r) (literalsOf c) ⌝ }
 {
     if clause::has(l.positive, p) && clause::has(r.negative, p) {
-        if clause::same(c, clause::resolve(l, r, p)) {
-            return Verdict::Fine;
-        }
-        return Verdict::Refused(Reason::NotResult);
+        return check_result(c, clause::resolve(l, r, p));
     }
     Verdict::Refused(Reason::PivotMissing)
 }

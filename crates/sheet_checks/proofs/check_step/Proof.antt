@@ -1,12 +1,11 @@
-use mathlib.Core.Path.{_≡_}
-use mathlib.Core.Bool.{Bool, true, false}
+use mathlib.Core.Path.{_≡_, _∙_}
+use mathlib.Core.Bool.{true}
 use mathlib.Core.Logic.{⊎-elim}
 use Prim.Native.Nat.{ℕ}
-use Rattle.clause.specs.Clauses.{Literals, plus, minus, holds, alike, resolvent}
-use Rattle.sheet.specs.declared.Reason.the-variants.{NotResult}
-use Rattle.sheet.specs.declared.Verdict.the-variants.{Fine}
+use Rattle.clause.specs.Clauses.{Literals, plus, minus, holds, resolvent}
+use Rattle.sheet.specs.declared.Verdict.{Verdict}
 use Rattle.sheet.specs.Reasons.{unless}
-use Rattle.sheet.specs.Checks.{checkStep}
+use Rattle.sheet.specs.Checks.{checkResult, checkStep}
 use borrow.Author.Needs.{needs}
 use Rattle.sheet_checks.proofs.check_step.Statement.{statement}
 use Rattle.sheet_checks.proofs.check_step.Tie as tie
@@ -20,51 +19,33 @@ has-requires-2 c κs = search needs
 resolve-requires : tie.Need-resolve-requires
 resolve-requires c κs = search needs
 
-same-requires : tie.Need-same-requires
-same-requires c κs = search needs
+check-result-requires : tie.Need-check-result-requires
+check-result-requires c κs = search needs
 
--- where both literals are there, the verdict is as the clauses compare
-compared : (p : ℕ) (l r c : Literals) (s : Bool)
+-- where both literals are there, the verdict is that of the written clause
+compared : (p : ℕ) (l r c result : Literals) (v : Verdict)
     → holds (plus p) l ≡ true
     → holds (minus p) r ≡ true
-    → alike c (resolvent p l r) ≡ s
-    → unless s NotResult Fine ≡ checkStep p l r c
+    → result ≡ resolvent p l r
+    → v ≡ checkResult c result
+    → v ≡ checkStep p l r c
 unfolding checkStep unless
-compared p l r c s h₁ h₂ h₃ = simp (h₁, h₂, h₃)
+compared p l r c result v h₁ h₂ e q = q ∙ simp (h₁, h₂, e)
 
 returns : tie.Need-returns
-unfolding unless holds
+unfolding holds
 returns c =
-    let if2 = c .before .before .before in
+    let if2 = c .before .before in
     let if1 = if2 .before .before in
-    let result = c .before .before .resolve .ensures in
-    compared _ _ _ _ true (simp (← if1 .before .has .ensures, if1 .if1 .taken)) (simp (← if2 .before .has2 .ensures, if2 .if2 .taken))
-    (simp (← result, ← c .before .same .ensures, c .if3 .taken))
+    compared _ _ _ _ _ _ (simp (← if1 .before .has .ensures, if1 .if1 .taken)) (simp (← if2 .before .has2 .ensures, if2 .if2 .taken))
+    (c .before .resolve .ensures) (c .check-result .ensures)
 
 returns-2 : tie.Need-returns-2
-unfolding unless holds
-returns-2 c =
-    let if2 = c .before .before .before in
-    let if1 = if2 .before .before in
-    let result = c .before .before .resolve .ensures in
-    compared _ _ _ _ false (simp (← if1 .before .has .ensures, if1 .if1 .taken)) (simp (← if2 .before .has2 .ensures, if2 .if2 .taken))
-    (simp (← result, ← c .before .same .ensures, c .if3 .left))
-
-returns-3 : tie.Need-returns-3
 unfolding checkStep unless holds
-returns-3 c =
+returns-2 c =
     ⊎-elim
     (λ w. simp (← c .before .has .ensures, w .0 .taken, ← w .1 .ensures, w .2 .left))
     (λ w. simp (← c .before .has .ensures, w .left)) (c .if1 .came)
 
 pub check-step-spec : {M : Type 1} → statement M
-check-step-spec =
-    tie.close
-    (tie.spec
-    has-requires
-    has-requires-2
-    resolve-requires
-    same-requires
-    returns
-    returns-2
-    returns-3)
+check-step-spec = tie.close (tie.spec has-requires has-requires-2 resolve-requires check-result-requires returns returns-2)
