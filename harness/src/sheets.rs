@@ -117,7 +117,8 @@ fn both_ways(variables: u8) -> Draft {
     draft
 }
 
-/// A clause resolved with itself again and again: as deep as a sheet can be.
+/// A clause resolved with itself again and again: nearly as deep as a sheet can
+/// be.
 fn deep(size: usize) -> Draft {
     let mut draft = both_ways(1);
     for node in 0..size - 1 {
