@@ -1,18 +1,18 @@
 -- Laws of the press's tables: what the word of a link says, what stores make of links, clauses and nodes, and where the parents of sound links stand.
 use mathlib.Core.Path.{_≡_, refl, sym, ap, ap₂, _∙_}
 use mathlib.Core.List.{List, [], _∷_}
-use Prim.Native.Nat.{ℕ, zero, suc, _+_, _*_, _/_, _%_, _<_, _≤_}
+use Prim.Native.Nat.{ℕ, zero, suc, _+_, _*_, _/_, _%_, _<_}
 use native.Mathlib.Omega.{arith}
 use native.Mathlib.Decide.{ℕ-discrete, decLt}
 use lib.Dec.{eqb, eqb·zero-suc, eqb·suc-zero, eqb·suc-suc}
 use lib.ListN.{length, getD, set, take, length-map, length-set, List·getD-map, List·getD-eq-default}
-use lib.Seq.{getD-take, getD-set-same, getD-set-other}
+use lib.Seq.{getD-set-same, getD-set-other}
 use borrow.Author.Tests.{eq-eqb, ne-eqb}
 use Rattle.base.proofs.Lists.{map-set}
 use Rattle.clause.specs.Clauses.{Literals, literals}
 use Rattle.sheet.specs.Records.{given, step, clause, nodeAt}
 use Rattle.press_spec.specs.Links.{Link, leaf, join, link, links, linkAt}
-use Rattle.press_nodes.specs.Tables.{ofOne, ofTwo, pivotAt, leftAt, rightAt, lineAt, linkOf, linksIn, clauseWords, clausesIn, changed, beside, nodeOf, nodesIn, Sound, Links}
+use Rattle.press_nodes.specs.Tables.{ofOne, ofTwo, pivotAt, leftAt, rightAt, lineAt, linkOf, linksIn, clausesIn, changed, beside, nodeOf, nodesIn, Sound, Links}
 use Rattle.press_spec.proofs.Nodes.{Falls, Falling}
 
 -- ---- links
@@ -154,18 +154,6 @@ module _ (h c : List ℕ) where
       → nodesIn h′ c′ ≡ set (nodesIn h c) n (nodeOf x d)
   unfolding nodesIn
   nodes-put n x d h′ c′ e q = rw e (beside-set nodeOf (linksIn h) (clausesIn c) (clausesIn c′) n x d q)
-
--- the first k nodes
-clauses-take : (k : ℕ) (c : List ℕ) (n : ℕ) → n < k → clausesIn (take (clauseWords k) c) n ≡ clausesIn c n
-unfolding clausesIn
-clauses-take k c n h =
-    ap₂ literals (getD-take (clauseWords k) c (2 * n) 0 (omega arith)) (getD-take (clauseWords k) c (2 * n + 1) 0 (omega arith))
-
-links-take : (k : ℕ) (h : List ℕ) → linksIn (take k h) ≡ take k (linksIn h)
-unfolding linksIn
-links-take zero h = refl
-links-take (suc k) [] = refl
-links-take (suc k) (x ∷ h) = ap (λ (t : List Link). linkOf x ∷ t) (links-take k h)
 
 -- ---- sound links: their parents stand earlier
 

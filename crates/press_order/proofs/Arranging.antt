@@ -1,10 +1,9 @@
--- `order_from`: tables lent as the front part of an array, and the order from a node.
-use Prim.Native.Nat.{ℕ, suc, _≤_, _<_}
+-- `order_from`: the order from a node.
+use Prim.Native.Nat.{ℕ, suc, _<_}
 use mathlib.Core.Path.{_≡_, refl, ap, _∙_}
-use mathlib.Core.List.{List, [], _++_}
+use mathlib.Core.List.{List, []}
 use native.Mathlib.Omega.{arith}
-use lib.ListN.{length, getD, take, drop, replicate, length-replicate}
-use lib.Seq.{length-front, length-take-le, take-at}
+use lib.ListN.{length, getD, replicate, length-replicate}
 use Rattle.base.proofs.Lists.{getD-blank}
 use Rattle.press_spec.specs.Links.{Link}
 use Rattle.press_nodes.specs.Tables.{Links}
@@ -12,17 +11,6 @@ use Rattle.press_spec.specs.Trim.{usesFrom}
 use Rattle.press_spec.specs.Order.{placed, orderFrom}
 use Rattle.press_order.specs.Placing.{Stands, Placing}
 use Rattle.press_order.proofs.Placing.{Places}
-
--- ---- the front part of a list, lent and given back
-
-module _ {A : Type 0} (d e : List A) (n : ℕ) (kept : length e ≡ length (take n d)) (fits : n ≤ length d) where
-  pub front-long : n ≤ length (e ++ drop n d)
-  front-long = rw (length-front d e n kept) fits
-
-  pub front-again : take n (e ++ drop n d) ≡ e
-  front-again = take-at e (drop n d) n (kept ∙ length-take-le n d fits)
-
--- ---- the order from a node
 
 pub none-stand : (numbers cleared : List ℕ) → cleared ≡ replicate (length numbers) 0 → Stands cleared 0 []
 unfolding placed

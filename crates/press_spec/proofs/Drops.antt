@@ -14,6 +14,7 @@ use Rattle.base.proofs.Lists.{cond-both}
 use Rattle.sheet.specs.Records.{Node, Record, node, drop, nodeAt}
 use Rattle.sheet.specs.Counts.{nodesOf}
 use Rattle.sheet.specs.Proper.{recordIn}
+use Rattle.sheet.proofs.Counts.{nodes-append}
 use Rattle.press_spec.specs.Links.{Link, leaf, join, link, links}
 use Rattle.press_spec.specs.Trim.{naming, usesIn, uses}
 use Rattle.press_spec.specs.Drops.{dropLast, dropsAfter, withDrops}
@@ -35,12 +36,6 @@ unfolding dropped
 dropped-append j [] ys = omega arith
 dropped-append j (node x ∷ xs) ys = dropped-append j xs ys
 dropped-append j (drop i ∷ xs) ys = omega (arith, dropped-append j xs ys)
-
-nodes-append : (xs ys : List Record) → nodesOf (xs ++ ys) ≡ nodesOf xs ++ nodesOf ys
-unfolding nodesOf
-nodes-append [] ys = refl
-nodes-append (node x ∷ xs) ys = ap (λ (t : List Node). x ∷ t) (nodes-append xs ys)
-nodes-append (drop i ∷ xs) ys = nodes-append xs ys
 
 -- ---- the drops after a node
 

@@ -110,9 +110,6 @@ module _ (s : List Link) (lines : ℕ) where
   pub marked-line : (line : ℕ) → (getD (markLines s (replicate lines 0)) line 0 ≡ 0 → ⊥) → LineOf s line
   marked-line line f = elim (unmarked s (replicate lines 0) line f) [ inl o ↦ o | inr g ↦ absurd (g (getD-blank lines line 0)) ]
 
-  pub other-unmarked : (line : ℕ) → (LineOf s line → ⊥) → getD (markLines s (replicate lines 0)) line 0 ≡ 0
-  other-unmarked line f = elim (ℕ-discrete (getD core line 0) 0) [ yes q ↦ q | no q ↦ absurd (f (marked-line line q)) ]
-
   pub each-marks : Each 1 (markLines s (replicate lines 0))
   each-marks = each-markLines s (replicate lines 0) (λ j. omega (arith, zeros-each lines j))
 

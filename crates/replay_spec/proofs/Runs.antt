@@ -16,14 +16,9 @@ use Rattle.sheet.specs.Editions.{Edition}
 use Rattle.sheet.specs.Records.{Node, given, Record, node, drop, clause, nodeAt}
 use Rattle.sheet.specs.Counts.{nodesOf, heldFrom, peakFrom, firstOver}
 use Rattle.sheet.specs.Proper.{recordIn, clauseIn, Held, ProperAfter}
+use Rattle.sheet.proofs.Counts.{nodes-append}
 
 -- ---- nodes, steps, the number held, peak
-
-nodes-append : (xs ys : List Record) → nodesOf (xs ++ ys) ≡ nodesOf xs ++ nodesOf ys
-unfolding nodesOf
-nodes-append [] ys = refl
-nodes-append (node n ∷ xs) ys = ap (λ (l : List Node). n ∷ l) (nodes-append xs ys)
-nodes-append (drop n ∷ xs) ys = nodes-append xs ys
 
 pub nodes-node : (rs : List Record) (x : Node) → nodesOf (rs ++ (node x ∷ [])) ≡ nodesOf rs ++ (x ∷ [])
 unfolding nodesOf

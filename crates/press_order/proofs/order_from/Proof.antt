@@ -1,6 +1,7 @@
 use mathlib.Core.Path.{sym}
 use lib.Seq.{length-take-le}
-use Rattle.press_order.proofs.Arranging.{front-long, front-again, none-stand, starts, order-found}
+use Rattle.press_nodes.proofs.Lent.{front-long, front-again}
+use Rattle.press_order.proofs.Arranging.{none-stand, starts, order-found}
 use borrow.Author.Needs.{needs}
 use Rattle.press_order.proofs.order_from.Statement.{statement}
 use Rattle.press_order.proofs.order_from.Tie as tie

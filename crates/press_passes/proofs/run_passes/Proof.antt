@@ -13,10 +13,9 @@ use Rattle.press_spec.specs.Order.{orderFrom, laid}
 use Rattle.press_spec.specs.Press.{pressed, core, report}
 use Rattle.press_nodes.specs.Fates.{fatesIn}
 use Rattle.press_nodes.specs.Tables.{linksIn, clauseWords, nodesIn, Nodes}
-use Rattle.press_nodes.proofs.Lent.{lent-long}
+use Rattle.press_nodes.proofs.Lent.{lent-long, front-long, front-again}
 use Rattle.press_rebuild.proofs.Sounds.{rebuilt-nodes}
 use Rattle.press_order.specs.Placing.{Numbered, Orderly}
-use Rattle.press_order.proofs.Arranging.{front-long, front-again}
 use Rattle.press_order.proofs.Arranged.{arranged-order, arranged-fits, arranged-nodes}
 use Rattle.press_write.specs.Emittable.{Emittable}
 use Rattle.press_passes.proofs.Recycled.{from-below, from-pressed}
