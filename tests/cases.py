@@ -60,7 +60,6 @@ def accepted(t):
     lines = {
         "lone": "ok records 1 nodes 1 steps 0 peak 1 core 1",
         "irregular": "ok records 9 nodes 5 steps 2 peak 3 core 3",
-        "twice": "ok records 1 nodes 1 steps 0 peak 1 core 1",
         "deep": DEEP_OK,
     }
     for name, (rules, sheet, out) in WORKED.items():
@@ -200,6 +199,11 @@ def refused(t):
     case("a line beyond the table", "refused 13 at 1", given(0, "+0") + given(2, "-0"))
     case("an empty table", "refused 13 at 0", rules=b"")
     case("another clause than the line's", "refused 14 at 1", given(0, "+0") + given(1, "+0"))
+    twice = given(0, "+0 -0") + step(0, 0, 0, "+0 -0")
+    case("twice", "refused 17 at 0", twice, table("+0 -0"))
+    case("a given clause with variable 63 both ways", "refused 17 at 1", given(0, "+0") + given(1, "+63 -63"), table("+0", "+63 -63"))
+    case("the same, and it differs from its line", "refused 14 at 0", twice, table("+0"))
+    t.answers("a line with a variable both ways that no record names", files(rules=RULES + sets("+5 -5")), PAIR_OK, PAIR_OUT)
     case("the first bad record answers", "refused 14 at 0", given(1, "+0") + bytes(24))
     case("pair's own output", "refused 6 at 3", PAIR_OUT)
 

@@ -106,22 +106,21 @@ fn shallow(size: usize) -> Draft {
     draft
 }
 
-/// A draft that begins with a clause of so many variables, each both ways.
-fn both_ways(variables: u8) -> Draft {
+/// A draft that begins with a derived clause of so many variables, each both
+/// ways, and the number of its node.
+fn both_ways(variables: u8) -> (Draft, usize) {
     let mut draft = Draft::default();
     let literals = |v| [Literal::Plus(v), Literal::Minus(v)];
-    draft.give(
-        &mut Rng::new(0, 0),
-        (0..variables).flat_map(literals).collect(),
-    );
-    draft
+    let clause = (0..variables).flat_map(literals).collect();
+    let first = draft.derive(&mut Rng::new(0, 0), &clause);
+    (draft, first)
 }
 
 /// A clause resolved with itself again and again: nearly as deep as a sheet can
 /// be.
 fn deep(size: usize) -> Draft {
-    let mut draft = both_ways(1);
-    for node in 0..size - 1 {
+    let (mut draft, first) = both_ways(1);
+    for node in first..size - 1 {
         draft.resolve(0, node, node);
     }
     draft
@@ -146,13 +145,12 @@ fn chain(size: usize) -> Draft {
 /// Nodes that are used again, last made first: a third of them are held at
 /// once, the first one from the start to the end.
 fn held(size: usize) -> Draft {
-    let count = (size + 2) / 3;
-    let mut draft = both_ways(2);
-    for node in 0..count - 1 {
+    let (mut draft, first) = both_ways(2);
+    let mut last = first + size / 3 - 1;
+    for node in first..last {
         draft.resolve(0, node, node);
     }
-    let mut last = count - 1;
-    for node in (0..count - 1).rev() {
+    for node in (first..last).rev() {
         let one = draft.resolve(0, last, node);
         last = draft.resolve(1, one, one);
     }

@@ -11,8 +11,9 @@ use std::sync::atomic::{AtomicBool, AtomicU64, Ordering::Relaxed};
 use std::thread;
 use std::time::{Duration, Instant};
 
+/// A variable is in one of the sets at most: a given clause has none both ways.
 const POSITIVE: u64 = 0x1122_3344_5566_7788;
-const NEGATIVE: u64 = 0x99AA_BBCC_DDEE_FF01;
+const NEGATIVE: u64 = 0xEE5D_CC99_AA91_8007;
 const WORDS: usize = size_of::<Slot>() / 8;
 const PATIENCE: Duration = Duration::from_secs(60);
 

@@ -16,6 +16,13 @@ impl Literal {
             Literal::Plus(v) | Literal::Minus(v) => v,
         }
     }
+
+    pub fn opposite(self) -> Literal {
+        match self {
+            Literal::Plus(v) => Literal::Minus(v),
+            Literal::Minus(v) => Literal::Plus(v),
+        }
+    }
 }
 
 #[derive(Clone, Default, PartialEq, Eq)]
@@ -48,6 +55,27 @@ impl Clause {
 
     pub fn holds(&self, literal: Literal) -> bool {
         self.0.contains(&literal)
+    }
+
+    /// Whether a variable is in it both ways.
+    pub fn holds_both_ways(&self) -> bool {
+        self.literals()
+            .any(|literal| self.holds(literal.opposite()))
+    }
+
+    /// As much of it as holds no variable both ways.
+    pub fn one_way(&self) -> Clause {
+        let one_way = |&literal: &Literal| match literal {
+            Literal::Plus(_) => true,
+            Literal::Minus(_) => !self.holds(literal.opposite()),
+        };
+        self.literals().filter(one_way).collect()
+    }
+
+    /// The variables that are not in it.
+    pub fn lacking(&self) -> Vec<u8> {
+        let lacks = |&v: &u8| !self.holds(Literal::Plus(v)) && !self.holds(Literal::Minus(v));
+        (0..64).filter(lacks).collect()
     }
 
     pub fn with(&self, literal: Literal) -> Clause {

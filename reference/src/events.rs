@@ -29,6 +29,10 @@ fn shortening_events(passes: &Passes) -> Vec<Event> {
     let why = |why| passes.rebuilt.why.values().any(|w| *w == why);
     let resets = resets(passes);
     vec![
+        (
+            "input: a derived clause holds v both ways",
+            both_ways(passes),
+        ),
         ("trim: unused records", trimmed < passes.input.nodes.len()),
         ("recycle: left edge cut", cut(Edge::Left)),
         ("recycle: right edge cut", cut(Edge::Right)),
@@ -101,6 +105,11 @@ fn order_events(passes: &Passes) -> Vec<Event> {
             differs(&|l, r| counts[&r] > counts[&l]),
         ),
     ]
+}
+
+fn both_ways(passes: &Passes) -> bool {
+    let holds = |node: &Node| node.clause().holds_both_ways();
+    passes.input.nodes.values().any(holds)
 }
 
 /// One entry for each edge into a step with two or more uses that would have

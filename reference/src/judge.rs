@@ -22,8 +22,9 @@ pub struct Around<'a> {
 }
 
 /// The numbers that a record can get, in the order in which they are tried:
-/// document 01's order, and "18 is tried right after 12."
-pub const TRIED: [u32; 11] = [6, 7, 8, 9, 10, 11, 12, 18, 13, 14, 15];
+/// document 01's order, "18 is tried right after 12", and 17 "after 14 and before
+/// 15".
+pub const TRIED: [u32; 12] = [6, 7, 8, 9, 10, 11, 12, 18, 13, 14, 17, 15];
 
 /// "the first bad record answers", with the first number that applies.
 pub fn judge(bytes: &[u8], faults: &BTreeSet<u32>) -> Result<Record, u32> {
@@ -76,13 +77,18 @@ fn node_faults(node: &Node, around: &Around) -> BTreeSet<u32> {
     }
 }
 
-/// "13 rule line beyond the table", "14 given clause differs from its rule line".
+/// "13 rule line beyond the table", "14 given clause differs from its rule line",
+/// 17 "holding a variable both ways".
 fn given_faults(line: usize, clause: &Clause, rules: &[u8]) -> BTreeSet<u32> {
-    match rules.chunks_exact(LINE).nth(line) {
+    let mut faults = match rules.chunks_exact(LINE).nth(line) {
         None => BTreeSet::from([13]),
         Some(rule) if Clause::read(rule) != *clause => BTreeSet::from([14]),
         Some(_) => BTreeSet::new(),
+    };
+    if clause.holds_both_ways() {
+        faults.insert(17);
     }
+    faults
 }
 
 /// "8 pivot over 63", "11 +p missing on the left or -p on the right",

@@ -2,6 +2,7 @@
 //! generator's coverage is measured and not assumed.
 
 use crate::cases::{draw, Case, Size};
+use crate::clause::Clause;
 use crate::events::{pass_events, Event};
 use crate::judge::TRIED;
 use crate::lengths::{room_needed, LINE, PRESS_RECORDS, RECORD, REPLAY_RECORDS, RULE_LINES};
@@ -61,6 +62,12 @@ impl Stats {
                     ("press: 512 records accepted", records == PRESS_RECORDS),
                     ("press: room exactly 48N-24", room == room_needed(records)),
                     ("press: 1024 rule lines", rules.len() / LINE == RULE_LINES),
+                    (
+                        "press: an unused line holds v both ways",
+                        rules
+                            .chunks_exact(LINE)
+                            .any(|line| Clause::read(line).holds_both_ways()),
+                    ),
                 ]);
             }
         }

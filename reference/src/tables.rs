@@ -58,18 +58,21 @@ pub fn starred() -> String {
     for worked in [lone(), pair(), irregular(), twice(), pivot()] {
         page += &rules_of(&worked);
         page += &records_of("", worked.name, &worked.records);
-        let out = worked.pressed().expect("the press takes it");
-        page += &match worked.name {
+        let out = worked.pressed();
+        page += &match (worked.name, out) {
             // as document 01 prints them, eight bytes, then eight, then eight
-            "pair" => bytes_of("pairPressed", &sheet(&out)),
-            _ => records_of("", &format!("{}Pressed", worked.name), &out),
+            ("pair", Some(out)) => bytes_of("pairPressed", &sheet(&out)),
+            (name, Some(out)) => records_of("", &format!("{name}Pressed"), &out),
+            (_, None) => String::new(),
         };
     }
     for worked in [early_drop(), gone(), pivot_64(), forward()] {
         page += &records_of("", worked.name, &worked.records);
     }
     let mut cases = vec![];
-    cases.extend([lone(), pair(), irregular(), twice()].map(|worked| accepts(&worked)));
+    cases.extend([lone(), pair(), irregular()].map(|worked| accepts(&worked)));
+    cases.push(refuses(&twice(), "twiceRules"));
+    cases.push(replays(&twice(), "twiceRules", 2));
     cases.extend([3, 2, 0].map(|slots| replays_pressed(&pair(), slots)));
     cases.extend([
         replays(&early_drop(), "pairRules", 2),
@@ -84,9 +87,40 @@ pub fn starred() -> String {
     page + &table("starred", "Starred", &cases)
 }
 
+/// A worked sheet, and what it is to tell apart.
+type Told = (&'static str, Worked);
+
 pub fn telling() -> String {
     let mut page = TELLING.to_string();
-    let told = [
+    for (why, worked) in &taken() {
+        page += &records_of(why, worked.name, &worked.records);
+        page += &rules_of(worked);
+        let out = worked.pressed().expect("the press takes it");
+        page += &records_of("", &format!("{}Pressed", worked.name), &out);
+    }
+    let both_ways = both_ways_in_full_row();
+    let in_full_row = (
+        "a given clause that holds a variable both ways, in a full row: 17, not 15",
+        both_ways.clone(),
+    );
+    for (why, worked) in refused().iter().chain([&in_full_row]) {
+        page += &records_of(why, worked.name, &worked.records);
+    }
+    page += &rules_of(&both_ways);
+    for (why, worked) in &wrong() {
+        let body = format!(" set irregular 2 ({})", record(&worked.records[2]));
+        page += &define(why, worked.name, "List Record", &body);
+    }
+    page += &format!(
+        "\nunfoldable pub oneRule : List Literals\noneRule = {}\n",
+        literals_of(&["+0"])
+    );
+    page + &table("telling", "Telling", &telling_cases())
+}
+
+/// Sheets that the press takes.
+fn taken() -> [Told; 9] {
+    [
         (
             "the right premise has more uses, and goes first",
             heavier_right(),
@@ -116,55 +150,59 @@ pub fn telling() -> String {
             "the conclusion holds the last pivot both ways: -p is tried first",
             either_way(),
         ),
-    ];
-    for (why, worked) in &told {
-        page += &records_of(why, worked.name, &worked.records);
-        page += &rules_of(worked);
-        let out = worked.pressed().expect("the press takes it");
-        page += &records_of("", &format!("{}Pressed", worked.name), &out);
-    }
-    let refused = [
+        (
+            "a line that no record names holds a variable both ways",
+            both_ways_unused(),
+        ),
+    ]
+}
+
+/// Sheets that are refused against the one rule {+0}.
+fn refused() -> [Told; 4] {
+    [
         ("a drop record is an unknown kind for the press, also where a byte of it must be zero and isn't", bad_drop()),
         ("a given record that names a line beyond the table, in a full row: its own number, not 15", bad_in_full_row()),
         ("the left parent isn't earlier and the right one was dropped: 9, not 10", both_names()),
-    ];
-    for (why, worked) in &refused {
-        page += &records_of(why, worked.name, &worked.records);
-    }
-    let wrong = [
+        ("a given clause that holds a variable both ways and differs from its line: 14, not 17", both_ways_differs()),
+    ]
+}
+
+/// *irregular* with another clause in record 2.
+fn wrong() -> [Told; 3] {
+    [
         ("a literal of the result is lost: 12", lost()),
         (
             "a literal is added to the result: 18, also in a full row",
             added(),
         ),
         ("one is lost and one is added: 12", lost_and_added()),
-    ];
-    for (why, worked) in &wrong {
-        let body = format!(" set irregular 2 ({})", record(&worked.records[2]));
-        page += &define(why, worked.name, "List Record", &body);
-    }
-    page += &format!(
-        "\nunfoldable pub oneRule : List Literals\noneRule = {}\n",
-        literals_of(&["+0"])
-    );
-    let mut cases: Vec<String> = told.iter().map(|(_, worked)| accepts(worked)).collect();
+    ]
+}
+
+fn telling_cases() -> Vec<String> {
+    let both_ways = both_ways_in_full_row();
+    let mut cases: Vec<String> = taken().iter().map(|(_, worked)| accepts(worked)).collect();
     cases.push(presses(&bad_drop(), "oneRule", 72, 1));
-    cases.extend(
-        refused
-            .iter()
-            .map(|(_, worked)| replays(worked, "oneRule", 1)),
-    );
-    for (_, worked) in &wrong {
+    for (_, worked) in &refused() {
+        cases.push(replays(worked, "oneRule", 1));
+    }
+    for (_, worked) in &wrong() {
         cases.push(refuses(worked, "irregularRules"));
         cases.push(replays(worked, "irregularRules", 2));
     }
     cases.extend([
+        refuses(&both_ways_differs(), "oneRule"),
+        refuses(&both_ways, "bothWaysInFullRowRules"),
+        replays(&both_ways, "bothWaysInFullRowRules", 1),
+        replays(&both_ways_unused(), "bothWaysUnusedRules", 3),
+        // derived clauses may hold a variable both ways
+        replays(&either_way(), "eitherWayRules", 7),
         presses(&pair(), "pairRules", 119, 2),
         presses(&pair(), "pairRules", 120, 1),
         "presses [] (ruleTable pairRules) 0 0 (2 ∷ 0 ∷ []) [] []".to_string(),
         "replays (1 ∷ []) (1 ∷ []) 2 (1 ∷ 0 ∷ []) (dirty 2)".to_string(),
     ]);
-    page + &table("telling", "Telling", &cases)
+    cases
 }
 
 // ---- definitions

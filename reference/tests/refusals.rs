@@ -3,6 +3,7 @@
 mod common;
 
 use common::*;
+use reference::record::Record;
 
 /// *pair* with some of its bytes changed.
 fn pair_with(changes: &[(usize, usize, u8)]) -> Vec<u8> {
@@ -100,6 +101,43 @@ fn rule_lines() {
     refused_by_both(&pair_with(&[(1, 7, 1)]), &rules, (13, 1));
     refused_by_both(&pair_with(&[(0, 6, 1)]), &rules, (14, 0));
     refused_by_both(&pair_with(&[(1, 15, 1)]), &rules, (14, 1));
+}
+
+#[test]
+fn a_given_clause_holds_no_variable_both_ways() {
+    for clause in ["+0 -0", "+63 -63", "-7 +7 -8", "+1 -2 +3 -3"] {
+        let sheet = sheet(&[given(0, "+0"), given(1, clause)]);
+        let rules = rules(&["+0", clause]);
+        refused_by_both(&sheet, &rules, (17, 1));
+        // before 15
+        assert_eq!(replay_answer(&sheet, &rules, 1), Err((17, 1)));
+    }
+    // after 13 and 14
+    let (sheet, table) = both_ways_differs().bytes();
+    refused_by_both(&sheet, &table, (14, 0));
+    assert_eq!(replay_answer(&sheet, &table, 0), Err((14, 0)));
+    refused_by_both(&twice().sheet(), &[], (13, 0));
+}
+
+#[test]
+fn a_derived_clause_may_hold_a_variable_both_ways() {
+    for worked in [twice_again(), either_way()] {
+        let (sheet, rules) = worked.bytes();
+        let holds = |record: &Record| match record {
+            Record::Node(node) => node.clause().holds_both_ways(),
+            Record::Drop { .. } => false,
+        };
+        assert!(worked.records.iter().any(holds));
+        assert_eq!(press_ok(&sheet, &rules).pressed.positive, 1);
+        assert!(replay_answer(&sheet, &rules, 7).is_ok());
+    }
+}
+
+#[test]
+fn a_line_that_no_record_names_may_hold_a_variable_both_ways() {
+    let (sheet, rules) = both_ways_unused().bytes();
+    assert_eq!(press_ok(&sheet, &rules).core, [0, 1]);
+    assert!(replay_answer(&sheet, &rules, 3).is_ok());
 }
 
 #[test]

@@ -85,12 +85,10 @@ fn irregular_loses_two_steps() {
 }
 
 #[test]
-fn the_step_of_twice_is_cut() {
-    let (input, rules) = twice().bytes();
-    let done = press_ok(&input, &rules);
-    assert_eq!(done.out, sheet(&[given(0, "+0 -0")]));
-    assert_eq!((done.pressed.records, done.pressed.peak), (1, 1));
-    assert_eq!((done.pressed.positive, done.pressed.negative), (1, 1));
+fn twice_is_17() {
+    let (sheet, rules) = twice().bytes();
+    assert_eq!(press_refused(&sheet, &rules), (17, 0));
+    assert_eq!(replay_answer(&sheet, &rules, 2), Err((17, 0)));
 }
 
 #[test]

@@ -6,10 +6,10 @@ use reference::{tables, worked};
 
 /// The first seed under which 300 cases have every answer that short ones can
 /// have.
-const SEED: u64 = 21;
+const SEED: u64 = 26;
 const COUNT: u64 = 300;
 
-const BOTH: [u32; 12] = [1, 2, 4, 6, 7, 8, 9, 11, 12, 18, 13, 14];
+const BOTH: [u32; 13] = [1, 2, 4, 6, 7, 8, 9, 11, 12, 18, 13, 14, 17];
 
 fn crate_file(name: &str, file: &str) -> Vec<u8> {
     let root = concat!(env!("CARGO_MANIFEST_DIR"), "/../crates");

@@ -1,6 +1,6 @@
 //! Proofs grown from the conclusion up to given clauses.
 
-use crate::cases::draft::Draft;
+use crate::cases::draft::{nodes_for, Draft};
 use crate::cases::shapes::clause;
 use crate::clause::{Clause, Literal};
 use crate::rng::Rng;
@@ -9,7 +9,10 @@ use crate::rng::Rng;
 /// with some nodes shared when the same clause is wanted again.
 pub fn backward(rng: &mut Rng, variables: &[u8], size: usize) -> Draft {
     let goal_width = rng.pick(&[0, 0, 1, 3]);
-    let goal = clause(rng, variables, goal_width);
+    let mut goal = clause(rng, variables, goal_width);
+    if size < nodes_for(&goal) {
+        goal = goal.one_way();
+    }
     let mut grower = Grower {
         draft: Draft::default(),
         variables,
@@ -28,7 +31,8 @@ struct Grower<'a> {
 }
 
 impl Grower<'_> {
-    /// Proves exactly `goal` with at most `budget` new nodes.
+    /// Proves exactly `goal` with at most `budget` new nodes, which must be enough
+    /// for it.
     fn prove(&mut self, rng: &mut Rng, goal: Clause, budget: usize) -> usize {
         if rng.chance(self.share_percent) {
             let known = self.draft.nodes.iter().position(|n| *n.clause() == goal);
@@ -36,20 +40,45 @@ impl Grower<'_> {
                 return number;
             }
         }
-        if budget < 3 {
-            return self.draft.give(rng, goal);
-        }
-        let pivot = rng.pick(self.variables);
-        let (left_goal, right_goal) = split(rng, &goal, pivot);
-        let left_budget = if rng.chance(self.lopsided_percent) {
-            rng.pick(&[1, budget - 2])
-        } else {
-            rng.between(1, budget - 2)
+        let Some(plan) = self.plan(rng, &goal, budget) else {
+            return self.draft.add(rng, &goal, budget);
         };
-        let left = self.prove(rng, left_goal, left_budget);
-        let right = self.prove(rng, right_goal, budget - 1 - left_budget);
-        self.draft.resolve(pivot, left, right)
+        let left = self.prove(rng, plan.left, plan.left_budget);
+        let right = self.prove(rng, plan.right, budget - 1 - plan.left_budget);
+        self.draft.resolve(plan.pivot, left, right)
     }
+
+    /// Two goals that the budget is enough for, if some are found.
+    fn plan(&self, rng: &mut Rng, goal: &Clause, budget: usize) -> Option<Plan> {
+        for _ in 0..8 {
+            let pivot = rng.pick(self.variables);
+            let (left, right) = split(rng, goal, pivot);
+            let least = nodes_for(&left);
+            let most = budget.saturating_sub(1 + nodes_for(&right));
+            if least <= most {
+                let left_budget = if rng.chance(self.lopsided_percent) {
+                    rng.pick(&[least, most])
+                } else {
+                    rng.between(least, most)
+                };
+                return Some(Plan {
+                    pivot,
+                    left,
+                    right,
+                    left_budget,
+                });
+            }
+        }
+        None
+    }
+}
+
+/// A step to a goal, and how many nodes its left premise may take.
+struct Plan {
+    pivot: u8,
+    left: Clause,
+    right: Clause,
+    left_budget: usize,
 }
 
 /// Two clauses that resolve on `pivot` to exactly `goal`. The left one can't

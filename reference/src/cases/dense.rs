@@ -1,5 +1,5 @@
-//! Proofs from clauses with variables both ways, in which nearly any two nodes
-//! resolve.
+//! Proofs from derived clauses with variables both ways, in which nearly any two
+//! nodes resolve.
 
 use crate::cases::draft::Draft;
 use crate::cases::shapes::literal;
@@ -14,11 +14,11 @@ pub fn lattice(rng: &mut Rng, size: usize) -> Draft {
     rng.shuffle(&mut variables);
     variables.truncate(rng.between(8, 20));
     let base: Clause = variables.iter().flat_map(both_ways).collect();
-    let bases = rng.between(1, 3).min(size);
+    let bases = rng.between(1, 3).min(size.div_ceil(3));
     let mut draft = Draft::default();
     for _ in 0..bases {
         let missing = literal(rng, &variables);
-        draft.give(rng, base.without(missing));
+        draft.add(rng, &base.without(missing), size - draft.nodes.len());
     }
     let same_percent = rng.pick(&[0, 20, 40]);
     while draft.nodes.len() < size {
@@ -34,7 +34,7 @@ pub fn lattice(rng: &mut Rng, size: usize) -> Draft {
         let mut pivots = pivots.filter(|&pivot| draft.can_resolve(pivot, one, other));
         match pivots.next() {
             Some(pivot) => draft.resolve(pivot, one, other),
-            None => draft.give(rng, base.clone()),
+            None => draft.add(rng, &base, size - count),
         };
     }
     draft
@@ -44,19 +44,21 @@ fn both_ways(&variable: &u8) -> [Literal; 2] {
     [Literal::Plus(variable), Literal::Minus(variable)]
 }
 
-/// A clause with variables both ways resolved with itself again and again: as
-/// deep as a sheet can be, with parents named twice.
+/// A derived clause with variables both ways, resolved with itself again and
+/// again: as deep as a sheet can be, with parents named twice.
 pub fn tower(rng: &mut Rng, variables: &[u8], size: usize) -> Draft {
+    // one variable is left to derive it on
+    let variables = &variables[..variables.len().min(63)];
     let base: Clause = variables.iter().flat_map(both_ways).collect();
     let same_percent = rng.pick(&[100, 100, 50, 0]);
     let mut draft = Draft::default();
-    draft.give(rng, base);
-    while draft.nodes.len() < size {
+    let first = draft.add(rng, &base, size);
+    while draft.nodes.len() < size && draft.clause(first).holds_both_ways() {
         let last = draft.nodes.len() - 1;
         let other = if rng.chance(same_percent) {
             last
         } else {
-            rng.below(last + 1)
+            rng.between(first, last)
         };
         let pivot = rng.pick(variables);
         if rng.chance(50) {

@@ -24,6 +24,40 @@ impl Draft {
         self.nodes.len() - 1
     }
 
+    /// Adds a clause, with at most `room` new nodes: a given node, or a derived
+    /// one if it holds a variable both ways. Where there is no room for that, a
+    /// given node with as much of it as may be.
+    pub fn add(&mut self, rng: &mut Rng, clause: &Clause, room: usize) -> usize {
+        if !clause.holds_both_ways() {
+            self.give(rng, clause.clone())
+        } else if room < nodes_for(clause) {
+            self.give(rng, clause.one_way())
+        } else {
+            self.derive(rng, clause)
+        }
+    }
+
+    /// Adds two given nodes and the step that makes the clause of them, on a
+    /// variable that it lacks. Of a variable that it holds both ways, each given
+    /// node has one literal.
+    pub fn derive(&mut self, rng: &mut Rng, clause: &Clause) -> usize {
+        let pivot = rng.pick(&clause.lacking());
+        let mut left = Clause::default().with(Literal::Plus(pivot));
+        let mut right = Clause::default().with(Literal::Minus(pivot));
+        let swapped: Vec<bool> = (0..64).map(|_| rng.chance(50)).collect();
+        for literal in clause.literals() {
+            let is_plus = matches!(literal, Literal::Plus(_));
+            if is_plus != swapped[usize::from(literal.variable())] {
+                left = left.with(literal);
+            } else {
+                right = right.with(literal);
+            }
+        }
+        let left = self.give(rng, left);
+        let right = self.give(rng, right);
+        self.resolve(pivot, left, right)
+    }
+
     /// Adds a step, which must be possible.
     pub fn resolve(&mut self, pivot: u8, left: usize, right: usize) -> usize {
         let clause = resolve(pivot, self.clause(left), self.clause(right));
@@ -70,6 +104,45 @@ impl Draft {
         }
     }
 
+    /// The same proof, but that a rule line which is named holds a variable both
+    /// ways. All else is still good.
+    pub fn with_a_rule_both_ways(&self, rng: &mut Rng) -> Draft {
+        let line_of = |node: &Node| match node {
+            Node::Given { line, .. } => Some(*line),
+            Node::Step { .. } => None,
+        };
+        let lines: Vec<usize> = self.nodes.iter().filter_map(line_of).collect();
+        let line = rng.pick(&lines);
+        let clause = &self.rules[line];
+        let held: Vec<u8> = clause.literals().map(Literal::variable).collect();
+        let v = match held.is_empty() {
+            true => rng.below(64) as u8,
+            false => rng.pick(&held),
+        };
+        self.with_rule(line, clause.with(Literal::Plus(v)).with(Literal::Minus(v)))
+    }
+
+    /// The same proof with another clause on a rule line, in which the old one lies.
+    fn with_rule(&self, line: usize, clause: Clause) -> Draft {
+        let mut draft = Draft {
+            nodes: vec![],
+            rules: self.rules.clone(),
+        };
+        draft.rules[line] = clause;
+        for node in &self.nodes {
+            match *node {
+                Node::Given { line, .. } => {
+                    let clause = draft.rules[line].clone();
+                    draft.nodes.push(Node::Given { line, clause });
+                }
+                Node::Step {
+                    pivot, left, right, ..
+                } => drop(draft.resolve(pivot, left, right)),
+            }
+        }
+        draft
+    }
+
     pub fn sheet(&self) -> Vec<u8> {
         let records = self.nodes.iter().cloned().map(Record::Node);
         records.flat_map(|record| record.write()).collect()
@@ -77,5 +150,14 @@ impl Draft {
 
     pub fn rule_table(&self) -> Vec<u8> {
         self.rules.iter().flat_map(Clause::write).collect()
+    }
+}
+
+/// How many nodes a clause takes: a given one, or two and a step if it holds a
+/// variable both ways.
+pub fn nodes_for(clause: &Clause) -> usize {
+    match clause.holds_both_ways() {
+        true => 3,
+        false => 1,
     }
 }

@@ -30,8 +30,8 @@ pub fn forward(rng: &mut Rng, variables: &[u8], size: usize) -> Draft {
         match step {
             Some((pivot, left, right)) => draft.resolve(pivot, left, right),
             None => {
-                let clause = pool[rng.below(pool.len())].clone();
-                draft.give(rng, clause)
+                let clause = &pool[rng.below(pool.len())];
+                draft.add(rng, clause, size - draft.nodes.len())
             }
         };
     }

@@ -47,16 +47,16 @@ pub fn draw(rng: &mut Rng, size: Size) -> Case {
     }
 }
 
-/// A pressed sheet, a sheet without drops, or a sheet whose nodes are dropped
-/// some time after their last use.
+/// A pressed sheet, if the press takes the draft, a sheet without drops, or a
+/// sheet whose nodes are dropped some time after their last use.
 fn base_sheet(rng: &mut Rng, draft: &Draft) -> Vec<u8> {
-    match rng.below(10) {
-        0..=5 => {
-            let proof = read_proof(&draft.sheet(), &draft.rule_table()).expect("drafts are good");
+    let proof = read_proof(&draft.sheet(), &draft.rule_table());
+    match (rng.below(10), proof) {
+        (0..=5, Ok(proof)) => {
             let records = run_passes(proof).records;
             records.iter().flat_map(Record::write).collect()
         }
-        6 => draft.sheet(),
+        (6, _) => draft.sheet(),
         _ => loosely_dropped(rng, draft),
     }
 }

@@ -8,8 +8,17 @@ use crate::clause::{Clause, Literal};
 use crate::lengths::{PRESS_RECORDS, RULE_LINES};
 use crate::rng::Rng;
 
-/// A valid proof of exactly `size` nodes.
+/// A valid proof of exactly `size` nodes, but that now and then a rule line that
+/// it names holds a variable both ways.
 pub fn draw(rng: &mut Rng, size: usize) -> Draft {
+    let draft = valid(rng, size);
+    match rng.chance(4) {
+        true => draft.with_a_rule_both_ways(rng),
+        false => draft,
+    }
+}
+
+fn valid(rng: &mut Rng, size: usize) -> Draft {
     let variables = draw_variables(rng);
     let depth_wanted = size == PRESS_RECORDS && rng.chance(15);
     let shape = if depth_wanted { 19 } else { rng.below(20) };
@@ -59,7 +68,7 @@ fn pad(rng: &mut Rng, variables: &[u8], draft: &mut Draft, size: usize) {
     let grown = draft.nodes.len();
     while draft.nodes.len() < size {
         let unused = clause(rng, variables, 2);
-        draft.give(rng, unused);
+        draft.give(rng, unused.one_way());
     }
     let mut order: Vec<usize> = (0..draft.nodes.len()).collect();
     order[grown - 1..].rotate_left(1);

@@ -27,6 +27,7 @@ pub fn irregular() -> Worked {
     Worked::new("irregular", &rules, &records)
 }
 
+/// "The case *twice* becomes 17 at record 0."
 pub fn twice() -> Worked {
     let records = [given(0, "+0 -0"), step(0, 0, 0, "+0 -0")];
     Worked::new("twice", &["+0 -0"], &records)
@@ -88,6 +89,6 @@ pub fn deep() -> Worked {
 }
 
 /// Those that the press takes, and that are short.
-pub fn pressable() -> [Worked; 6] {
-    [lone(), pair(), irregular(), twice(), idle(), pivot()]
+pub fn pressable() -> [Worked; 5] {
+    [lone(), pair(), irregular(), idle(), pivot()]
 }

@@ -1,7 +1,7 @@
 //! Sheets for what the starred ones do not tell apart: "Slips that look right",
 //! and what the passes and the checks can come to.
 
-use super::starred::irregular;
+use super::starred::{irregular, pair};
 use super::{dropped, given, step, Worked};
 
 /// The right premise of a step has two uses and the left one has one.
@@ -251,4 +251,23 @@ pub fn lost_and_added() -> Worked {
 
 pub fn wrong_results() -> [Worked; 3] {
     [lost(), added(), lost_and_added()]
+}
+
+/// A given clause that holds a variable both ways and differs from its rule line:
+/// 14, not 17.
+pub fn both_ways_differs() -> Worked {
+    Worked::new("bothWaysDiffers", &["+0"], &[given(0, "+0 -0")])
+}
+
+/// A given clause that holds a variable both ways: in a full row 17, not 15.
+pub fn both_ways_in_full_row() -> Worked {
+    let records = [given(0, "+0"), given(1, "-0 +7 -7")];
+    Worked::new("bothWaysInFullRow", &["+0", "-0 +7 -7"], &records)
+}
+
+/// *pair*, whose table also has a line that holds a variable both ways. No record
+/// names it, and nothing is refused.
+pub fn both_ways_unused() -> Worked {
+    let rules = ["+0", "-0", "+5 -5"];
+    Worked::new("bothWaysUnused", &rules, &pair().records)
 }

@@ -14,15 +14,15 @@ pub fn presses() -> Vec<Entry> {
 
 pub fn replays() -> Vec<Entry> {
     let of = |slots: usize| replay(&pressed(&pair()), &pair().table(), slots);
-    let with_peak = [(irregular(), 3), (twice(), 1)];
-    let others = with_peak.map(|(sheet, peak)| replay(&pressed(&sheet), &sheet.table(), peak));
-    [
+    vec![
         // pair's output, replayed: with three slots, with two, with none
-        vec![of(3), of(2), of(0)],
-        others.to_vec(),
-        vec![replay_sheet(&early_drop(), 2), replay_sheet(&gone(), 1)],
+        of(3),
+        of(2),
+        of(0),
+        replay(&pressed(&irregular()), &irregular().table(), 3),
+        replay_sheet(&early_drop(), 2),
+        replay_sheet(&gone(), 1),
     ]
-    .concat()
 }
 
 pub fn pivot_and_forward() -> Vec<Entry> {

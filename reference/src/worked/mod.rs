@@ -22,6 +22,7 @@ pub fn entries() -> Vec<Entry> {
         records::full_row(),
         records::results(),
         records::rule_lines(),
+        records::both_ways(),
         records::drops(),
         records::ends(),
         records::drops_for_the_press(),

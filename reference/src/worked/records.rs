@@ -3,8 +3,8 @@
 use super::{both, both_of, pair_with, press, press_in, pressed, replay, replay_sheet};
 use crate::lengths::RECORD;
 use crate::record::Record;
-use crate::sheets::starred::{lone, pair};
-use crate::sheets::telling::{added, bad_drop, wrong_results};
+use crate::sheets::starred::{lone, pair, twice};
+use crate::sheets::telling::*;
 use crate::sheets::{dropped, given, rules, sheet, step, Worked};
 use crate::stream::Entry;
 
@@ -94,9 +94,7 @@ pub fn results() -> Vec<Entry> {
 }
 
 pub fn rule_lines() -> Vec<Entry> {
-    let (zero, one) = (|| given(0, "+0 -0"), || given(1, "+0 -0"));
-    let both_lines = rules(&["+0 -0", "+0 -0"]);
-    let joined = || step(0, 0, 1, "+0 -0");
+    let both_lines = rules(&["+0", "+0", "-0 +1", "-0 -1"]);
     let empty = || given(0, "");
     [
         // a line of zeros is the empty clause: its slot is all zero but for the mark of use
@@ -107,8 +105,41 @@ pub fn rule_lines() -> Vec<Entry> {
             2,
         )],
         // two lines with one clause count twice; two given records of one line once
-        both(&sheet(&[zero(), one(), joined()]), &both_lines, 3),
-        both(&sheet(&[one(), one(), joined()]), &both_lines, 3),
+        both(&sheet(&naming(0, 1)), &both_lines, 7),
+        both(&sheet(&naming(1, 1)), &both_lines, 7),
+    ]
+    .concat()
+}
+
+/// Two given records of {+0}, of these lines, both of which the press keeps.
+fn naming(one: usize, other: usize) -> [Record; 7] {
+    [
+        given(one, "+0"),
+        given(2, "-0 +1"),
+        step(0, 0, 1, "+1"),
+        given(other, "+0"),
+        given(3, "-0 -1"),
+        step(0, 3, 4, "-1"),
+        step(1, 2, 5, ""),
+    ]
+}
+
+/// A given clause that holds a variable both ways, whatever else it holds: 17,
+/// after 13 and 14 and before 15. A derived clause may, and so may a line that no
+/// record names.
+pub fn both_ways() -> Vec<Entry> {
+    let among = [given(0, "+1 -2"), given(1, "+0 +2 -62 +63 -63")];
+    let beyond = [given(1, "+0 -0")];
+    let in_full_row = both_ways_in_full_row();
+    [
+        both_of(&twice(), 2),
+        both(&sheet(&among), &rules(&["+1 -2", "+0 +2 -62 +63 -63"]), 2),
+        both(&sheet(&beyond), &rules(&["+0 -0"]), 2),
+        both_of(&both_ways_differs(), 0),
+        both_of(&in_full_row, 1),
+        vec![replay_sheet(&in_full_row, 2), replay_sheet(&twice(), 0)],
+        both_of(&both_ways_unused(), 3),
+        vec![replay_sheet(&twice_again(), 5)],
     ]
     .concat()
 }
