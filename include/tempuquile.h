@@ -36,6 +36,7 @@ extern "C" {
 #define TEMPUQUILE_LITERAL_TOO_MANY 18 /* it lacks none but has at least one too many; tried right after 12 */
 #define TEMPUQUILE_NO_LINE 13          /* rule line beyond the table */
 #define TEMPUQUILE_LINE_DIFFERS 14     /* the given clause differs from its rule line */
+#define TEMPUQUILE_SAYS_NOTHING 17     /* the given clause holds a variable both ways; tried right after 14 */
 #define TEMPUQUILE_FULL 15             /* replay: a node record, and every slot holds a node */
 #define TEMPUQUILE_NOT_HELD 16         /* replay: at the end the last node isn't held */
 

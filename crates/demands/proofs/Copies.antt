@@ -1,12 +1,13 @@
 -- A sheet of copies of one given record is proper, and what is counted of it.
 use Prim.Native.Nat.{ℕ, zero, suc, _+_, _-_, _<_, _≤_}
 use mathlib.Core.Path.{_≡_, refl, sym, ap, _∙_}
-use mathlib.Core.Bool.{Bool}
+use mathlib.Core.Bool.{Bool, true≢false}
 use mathlib.Core.List.{List, [], _∷_, append-nil}
 use native.Mathlib.Omega.{arith}
 use lib.Dec.{lit<}
 use lib.ListN.{length, getD, replicate, length-replicate, getD-replicate}
-use Rattle.clause.specs.Clauses.{Literals, none}
+use Rattle.clause.specs.Clauses.{Literals, plus, none}
+use Rattle.clause.proofs.Clauses.{holds-none}
 use Rattle.sheet.specs.Editions.{Edition, narrow, lineBytes}
 use Rattle.sheet.specs.Records.{Node, given, Record, node, drop, reads, clause, nodeAt}
 use Rattle.sheet.specs.Fields.{reading, recordAt, sheetBytes, ruleLines, ruleLine}
@@ -14,6 +15,7 @@ use Rattle.sheet.specs.Counts.{nodesOf, stepOf, stepsOf, peakFrom}
 use Rattle.sheet.specs.Proper.{recordIn, conclusionOf, ReadsAs, Proper}
 use Rattle.sheet.proofs.RecordBytes.{length-sheetBytes, recordAt-sheet, reading-written, ruleLine-below}
 use Rattle.demands.specs.Limits.{copies, HasLine}
+use Rattle.demands.proofs.Computing.{computing}
 
 nodes-of : (n : ℕ) (m : Node) → nodesOf (replicate n (node m)) ≡ replicate n m
 unfolding nodesOf
@@ -64,7 +66,7 @@ module _ (e : Edition) (rules : List ℕ) (line : HasLine e rules) (n : ℕ) whe
         some = omega arith;
         few = omega arith;
         lines = (line .whole, line .few);
-        each = λ k h. rw (each-is k h) (line .some, refl);
+        each = λ k h. rw (each-is k h) (line .some, refl, line .one-way);
         ends = (omega (arith, nodes-are), λ k h q. not-a-drop (sym (each-is k h) ∙ q));
       }
 
@@ -84,10 +86,20 @@ module _ (e : Edition) (rules : List ℕ) (line : HasLine e rules) (n : ℕ) whe
       ap (λ (s : List Node). clause (nodeAt s (length s - 1))) (nodes-of n (given 0 c))
       ∙ ap clause (getD-replicate n (length (replicate n (given 0 c)) - 1) (given 0 c) (given 0 none) (omega (arith, some, length-replicate n (given 0 c))))
 
+line-of-zeros : ruleLine narrow (replicate (lineBytes narrow) 0) 0 ≡ none
+unfolding computing
+line-of-zeros = refl
+
 -- there are such tables, as one line with no literal
 pub has-line : HasLine narrow (replicate (lineBytes narrow) 0)
 unfolding ruleLines
-has-line = record { rule-bytes = zeros (lineBytes narrow); whole = refl; few = omega arith; some = omega arith }
+has-line = record {
+  rule-bytes = zeros (lineBytes narrow);
+  whole = refl;
+  few = omega arith;
+  some = omega arith;
+  one-way = λ b. true≢false (sym (rw line-of-zeros at (b .1)) ∙ holds-none (plus (b .0)));
+}
   where
     zeros : (n i : ℕ) → getD (replicate n 0) i 0 < 256
     zeros zero i = omega arith

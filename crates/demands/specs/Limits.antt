@@ -4,6 +4,7 @@ use Prim.Native.Nat.{ℕ, _-_, _*_, _%_, _<_, _≤_}
 use mathlib.Core.Path.{_≡_}
 use mathlib.Core.List.{List}
 use lib.ListN.{length, replicate}
+use Rattle.clause.specs.Clauses.{BothWays}
 use Rattle.sheet.specs.Editions.{Edition, narrow, recordBytes, lineBytes, pressRecords, replayRecords, tableLines}
 use Rattle.sheet.specs.Records.{given, Record, node}
 use Rattle.sheet.specs.Fields.{sheetBytes, ruleLines, ruleLine}
@@ -39,12 +40,13 @@ ReplayTurnsAway e n =
 abbrev pub copies : Edition → List ℕ → ℕ → List Record
 copies e rules n = replicate n (node (given 0 (ruleLine e rules 0)))
 
--- a rule table that has a line
+-- a rule table that has a line, with no variable both ways
 pub record HasLine (e : Edition) (rules : List ℕ) : Type 0 where
   pub rule-bytes : Bytes rules
   pub whole : length rules % lineBytes e ≡ 0
   pub few : ruleLines e rules ≤ tableLines e
   pub some : 0 < ruleLines e rules
+  pub one-way : BothWays (ruleLine e rules 0) → ⊥
 
 abbrev pub PressFills : Edition → ℕ → Type 0
 PressFills e n =

@@ -34,7 +34,7 @@ module _ (e : Edition) (rules : List ℕ) (s : List Node) where
 
   fine-check : (m : Node) → ProperNode e rules s (length s) m → checkNode e rules s m ≡ Fine
   unfolding checkNode
-  fine-check (given line c) d = fine-given e rules line c (d .0) (d .1)
+  fine-check (given line c) d = fine-given e rules line c (d .0) (d .1) (d .2)
   fine-check (step p l r c) d =
       fine-andThen _ _ (fine-earlier _ l (d .1)) (
       fine-andThen _ _ (fine-earlier _ r (d .2)) (

@@ -4,7 +4,7 @@ use mathlib.Core.Path.{_≡_}
 use mathlib.Core.Bool.{true}
 use mathlib.Core.List.{List}
 use lib.ListN.{length}
-use Rattle.clause.specs.Clauses.{Literal, plus, minus, holds, resolvent}
+use Rattle.clause.specs.Clauses.{Literal, plus, minus, holds, BothWays, resolvent}
 use Rattle.sheet.specs.Editions.{Edition, variables}
 use Rattle.sheet.specs.Records.{Node, given, step, clause, nodeAt}
 use Rattle.sheet.specs.Fields.{ruleLines, ruleLine}
@@ -13,9 +13,9 @@ use Rattle.press_spec.specs.Links.{links}
 use Rattle.press_spec.specs.Trim.{uses}
 use Rattle.press_spec.specs.Press.{conclusion}
 
--- node n of the nodes s passes the checks: a given is its rule line, a step a resolution of earlier nodes
+-- node n of the nodes s passes the checks: a given is its rule line and holds no variable both ways, a step a resolution of earlier nodes
 abbrev pub ProperNode : Edition → List ℕ → List Node → ℕ → Node → Type 0
-ProperNode e rules s n (given line c) = (line < ruleLines e rules) × (c ≡ ruleLine e rules line)
+ProperNode e rules s n (given line c) = (line < ruleLines e rules) × (c ≡ ruleLine e rules line) × (BothWays c → ⊥)
 ProperNode e rules s n (step p l r c) =
     (p < variables e)
     × (l < n)

@@ -17,7 +17,7 @@ use Rattle.sheet.specs.Editions.{Edition, variables}
 use Rattle.sheet.specs.Reasons.{unless, andThen}
 use Rattle.sheet.specs.Records.{Node, given, step, node, reads, unread, clause, nodeAt}
 use Rattle.sheet.specs.Fields.{Fields, fieldsOf, whenZero, readGiven, readStep, readDrop, readFields, reading}
-use Rattle.sheet.specs.Checks.{checkEarlier, checkResult, checkStep, checkGiven}
+use Rattle.sheet.specs.Checks.{checkEarlier, checkResult, checkStep, checkOneWay, checkGiven}
 use Rattle.sheet.specs.Refusals.{Place, Applies, RefusedFor}
 use Rattle.sheet.proofs.Refused.{chain, Tells}
 use Rattle.sheet.proofs.Applied.{never, givenTests, given-tried, stepTests, step-tried, other-tried}
@@ -72,7 +72,7 @@ module _ (e : Edition) (rules : List ℕ) (s : List Node) (f : Fields) where
   givenHere = given (f .line) (f .clause)
 
   given-chain : f .kind ≡ 1 → stopped ≡ byVerdict givenHere (chain (givenTests place f true))
-  unfolding readFields readGiven chain unless checkNode checkGiven
+  unfolding readFields readGiven chain unless checkNode checkGiven checkOneWay
   given-chain k = rw (eq-eqb (f .kind) 1 k) (zero-first givenHere _)
 
   abbrev stepHere : Node

@@ -171,7 +171,7 @@ module _ (e : Edition) (rules : List ℕ) (done : List Record) (s : State) (m : 
   -- of a proper node only 15 is left to check
   proper-checked : (x : Node) → ProperAfter e rules done (node x) → checkRecord e rules s (node x) ≡ andThen (checkRoom (s .slots)) Fine
   unfolding checkRecord firstOf andThen
-  proper-checked (given line c) p = rw (fine-given e rules line c (p .0) (p .1))
+  proper-checked (given line c) p = rw (fine-given e rules line c (p .0) (p .1) (p .2))
   proper-checked (step p l r c) (left, right, plus, minus, result) =
       rw (
         earlier-fine l left,

@@ -9,16 +9,16 @@ use native.Mathlib.Decide.{ℕ-discrete}
 use lib.Dec.{eqb, ltb}
 use lib.ListN.{length}
 use borrow.Author.Tests.{eq-eqb, ne-eqb, ltb-true, ltb-false, lt-ltb}
-use Rattle.clause.specs.Clauses.{Literals, plus, minus, holds, inside, alike, resolvent}
+use Rattle.clause.specs.Clauses.{Literals, plus, minus, holds, inside, bothWays, alike, resolvent}
 use Rattle.sheet.specs.declared.Reason.{Reason}
-use Rattle.sheet.specs.declared.Reason.the-variants.{Kind, NotZero, Pivot, NotEarlier, Dropped, PivotMissing, LiteralMissing, LiteralTooMany, NoLine, LineDiffers, Full}
+use Rattle.sheet.specs.declared.Reason.the-variants.{Kind, NotZero, Pivot, NotEarlier, Dropped, PivotMissing, LiteralMissing, LiteralTooMany, NoLine, LineDiffers, SaysNothing, Full}
 use Rattle.sheet.specs.declared.Verdict.{Verdict}
 use Rattle.sheet.specs.declared.Verdict.the-variants.{Fine, Refused}
 use Rattle.sheet.specs.Editions.{Edition, variables}
 use Rattle.sheet.specs.Reasons.{unless, andThen}
 use Rattle.sheet.specs.Records.{given, step, Record, node, drop, reads, unread}
 use Rattle.sheet.specs.Fields.{Fields, fieldsOf, whenZero, readGiven, readStep, readDrop, readFields, reading, ruleLines, ruleLine}
-use Rattle.sheet.specs.Checks.{checkEarlier, checkResult, checkStep, checkGiven}
+use Rattle.sheet.specs.Checks.{checkEarlier, checkResult, checkStep, checkOneWay, checkGiven}
 use Rattle.sheet.specs.Counts.{nodesOf}
 use Rattle.sheet.specs.Proper.{recordIn, clauseIn}
 use Rattle.sheet.specs.Refusals.{Place, Names, Applies, RefusedFor}
@@ -41,13 +41,15 @@ stops-verdict v s why q = rw q
 
 -- ---- the checks of a record as one chain
 
-given-once : (a b r : Bool)
-    → firstOf (unless a NoLine (unless b LineDiffers Fine) ∷ unless r Full Fine ∷ []) ≡ unless a NoLine (unless b LineDiffers (unless r Full Fine))
+given-once : (a b c r : Bool)
+    → firstOf (unless a NoLine (unless b LineDiffers (unless c SaysNothing Fine)) ∷ unless r Full Fine ∷ [])
+    ≡ unless a NoLine (unless b LineDiffers (unless c SaysNothing (unless r Full Fine)))
 unfolding firstOf andThen unless
-given-once true true true = refl
-given-once true true false = refl
-given-once true false r = refl
-given-once false b r = refl
+given-once true true true true = refl
+given-once true true true false = refl
+given-once true true false r = refl
+given-once true false c r = refl
+given-once false b c r = refl
 
 -- a node counts as kept where it is not earlier: then 9 comes before 10
 abbrev kept : Bool → Bool → Bool
@@ -203,12 +205,12 @@ module _ (e : Edition) (rules : List ℕ) (rs : List Record) (s : State) (m : Mi
   givenHere = node (given (f .line) (f .clause))
 
   given-chain : f .kind ≡ 1 → here ≡ byVerdict (chain (givenTests place f (room (s .slots)))) (after s givenHere)
-  unfolding readFields readGiven chain unless checkRecord checkGiven checkRoom
+  unfolding readFields readGiven chain unless checkRecord checkGiven checkOneWay checkRoom
   given-chain k =
       rw (eq-eqb (f .kind) 1 k)
       (zero-first givenHere (eqb (f .pivot) 0 && eqb (f .left) 0 && eqb (f .right) 0)
       ∙ ap (λ (v : Verdict). byVerdict (unless (eqb (f .pivot) 0 && eqb (f .left) 0 && eqb (f .right) 0) NotZero v) (after s givenHere))
-      (given-once (ltb (f .line) (ruleLines e rules)) (alike (f .clause) (ruleLine e rules (f .line))) (room (s .slots))))
+      (given-once (ltb (f .line) (ruleLines e rules)) (alike (f .clause) (ruleLine e rules (f .line))) (not (bothWays (f .clause))) (room (s .slots))))
 
   abbrev stepHere : Record
   stepHere = node (step (f .pivot) (f .left) (f .right) (f .clause))

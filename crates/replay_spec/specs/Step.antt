@@ -38,7 +38,7 @@ unfoldable pub firstOf : List Verdict → Verdict
 firstOf [] = Fine
 firstOf (v ∷ rest) = andThen v (firstOf rest)
 
--- the first number that applies: 9, 10, 11, 12 and 18, 15 of a step; 13 and 14, 15 of a given record; 9, 10 of a drop
+-- the first number that applies: 9, 10, 11, 12 and 18, 15 of a step; 13, 14 and 17, 15 of a given record; 9, 10 of a drop
 unfoldable pub checkRecord : Edition → List ℕ → State → Record → Verdict
 checkRecord e rules s (node (given line c)) = firstOf (checkGiven e rules line c ∷ checkRoom (s .slots) ∷ [])
 checkRecord e rules s (node (step p l r c)) =

@@ -7,11 +7,11 @@ use mathlib.Core.List.{List, [], _∷_}
 use native.Mathlib.Omega.{arith}
 use lib.Dec.{eqb, ltb}
 use lib.ListN.{length}
-use borrow.Author.Tests.{eqb-true, eq-eqb, ltb-true, ltb-false, lt-ltb}
-use Rattle.clause.specs.Clauses.{Literals, literals, plus, minus, holds, Within, inside, alike}
-use Rattle.clause.proofs.Clauses.{alike-same, alike-self, inside-of, inside-holds, inside-same}
+use borrow.Author.Tests.{eqb-true, eq-eqb, ltb-true, ltb-false, lt-ltb, not-true, not-false}
+use Rattle.clause.specs.Clauses.{Literals, literals, plus, minus, holds, Within, inside, BothWays, bothWays, alike}
+use Rattle.clause.proofs.Clauses.{alike-same, alike-self, inside-of, inside-holds, inside-same, both-ways-meets, meets-both-ways}
 use Rattle.sheet.specs.declared.Reason.{Reason}
-use Rattle.sheet.specs.declared.Reason.the-variants.{Kind, NotZero, Pivot, NotEarlier, Dropped, PivotMissing, LiteralMissing, LiteralTooMany, NoLine, LineDiffers, Full}
+use Rattle.sheet.specs.declared.Reason.the-variants.{Kind, NotZero, Pivot, NotEarlier, Dropped, PivotMissing, LiteralMissing, LiteralTooMany, NoLine, LineDiffers, SaysNothing, Full}
 use Rattle.sheet.specs.declared.Verdict.the-variants.{Refused}
 use Rattle.sheet.specs.Editions.{variables}
 use Rattle.sheet.specs.Fields.{Fields, ruleLines, ruleLine}
@@ -89,6 +89,7 @@ module _ (p : Place) (f : Fields) where
       ∷ test true LiteralTooMany
       ∷ test (ltb (f .line) (ruleLines (p .edition) (p .rules))) NoLine
       ∷ test (alike (f .clause) (ruleLine (p .edition) (p .rules) (f .line))) LineDiffers
+      ∷ test (not (bothWays (f .clause))) SaysNothing
       ∷ test room Full
       ∷ []
 
@@ -101,6 +102,12 @@ module _ (p : Place) (f : Fields) where
       tells A _ NotZero _ (both _ _ _ _ (both _ _ _ _ (zero? (f .pivot)) (zero? (f .left))) (zero? (f .right)))
       (λ n z. let x = z .0 k in n ((x .0, x .1), x .2))
       (λ n x. n (λ i. (x .0 .0, x .0 .1, x .1), λ i. absurd (omega arith), λ i. absurd (omega arith)))
+
+  given-says-nothing : f .kind ≡ 1 → Tells A (not (bothWays (f .clause))) SaysNothing
+  given-says-nothing k = (
+    λ q. (k, meets-both-ways (f .clause) (not-false (bothWays (f .clause)) q)),
+    λ q a. true≢false (sym (both-ways-meets (f .clause) (a .1)) ∙ not-true (bothWays (f .clause)) q),
+  )
 
   given-tells : f .kind ≡ 1 → (room : Bool) → Tells A room Full → TellAll A (givenTests room)
   given-tells k room slot = (
@@ -123,7 +130,7 @@ module _ (p : Place) (f : Fields) where
                     tells A _ NoLine _ (below? (f .line) _) (λ n. (k, omega arith)) (λ a x. omega (arith, a .1)),
                     (
                       tells A _ LineDiffers _ (alike? (f .clause) _) (λ n. (k, n)) (λ a x. a .1 x),
-                      (slot, tt),
+                      (given-says-nothing k, (slot, tt)),
                     ),
                   ),
                 ),
@@ -153,6 +160,7 @@ module _ (p : Place) (f : Fields) where
       ∷ test noneTooMany LiteralTooMany
       ∷ test true NoLine
       ∷ test true LineDiffers
+      ∷ test true SaysNothing
       ∷ test room Full
       ∷ []
 
@@ -208,7 +216,7 @@ module _ (p : Place) (f : Fields) where
                     never A NoLine (λ a. omega (arith, a .0)),
                     (
                       never A LineDiffers (λ a. omega (arith, a .0)),
-                      (slot, tt),
+                      (never A SaysNothing (λ a. omega (arith, a .0)), (slot, tt)),
                     ),
                   ),
                 ),
@@ -239,6 +247,7 @@ module _ (p : Place) (f : Fields) where
       ∷ test true LiteralTooMany
       ∷ test true NoLine
       ∷ test true LineDiffers
+      ∷ test true SaysNothing
       ∷ test true Full
       ∷ []
 
@@ -282,7 +291,13 @@ module _ (p : Place) (f : Fields) where
                   never A LiteralTooMany (λ a. omega (arith, a .0)),
                   (
                     never A NoLine (λ a. omega (arith, a .0)),
-                    (never A LineDiffers (λ a. omega (arith, a .0)), (never A Full (λ a. elim (a .0) [ inl x ↦ omega arith | inr x ↦ omega arith ]), tt)),
+                    (
+                      never A LineDiffers (λ a. omega (arith, a .0)),
+                      (
+                        never A SaysNothing (λ a. omega (arith, a .0)),
+                        (never A Full (λ a. elim (a .0) [ inl x ↦ omega arith | inr x ↦ omega arith ]), tt),
+                      ),
+                    ),
                   ),
                 ),
               ),

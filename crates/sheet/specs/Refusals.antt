@@ -6,9 +6,9 @@ use mathlib.Core.Bool.{Bool, true}
 use mathlib.Core.Logic.{_⊎_}
 use mathlib.Core.List.{List, [], _∷_}
 use lib.ListN.{length, take}
-use Rattle.clause.specs.Clauses.{plus, minus, Literals, none, holds, Within, resolvent}
+use Rattle.clause.specs.Clauses.{plus, minus, Literals, none, holds, Within, BothWays, resolvent}
 use Rattle.sheet.specs.declared.Reason.{Reason}
-use Rattle.sheet.specs.declared.Reason.the-variants.{Ragged, Empty, Long, Table, Room, Kind, NotZero, Pivot, NotEarlier, Dropped, PivotMissing, LiteralMissing, LiteralTooMany, NoLine, LineDiffers, Full, NotHeld}
+use Rattle.sheet.specs.declared.Reason.the-variants.{Ragged, Empty, Long, Table, Room, Kind, NotZero, Pivot, NotEarlier, Dropped, PivotMissing, LiteralMissing, LiteralTooMany, NoLine, LineDiffers, SaysNothing, Full, NotHeld}
 use Rattle.sheet.specs.Editions.{Edition, variables, recordBytes, lineBytes, tableLines}
 use Rattle.sheet.specs.Reasons.{numberOf}
 use Rattle.sheet.specs.Records.{Record, drop, reads}
@@ -58,6 +58,7 @@ LengthApplies z LiteralMissing = ⊥
 LengthApplies z LiteralTooMany = ⊥
 LengthApplies z NoLine = ⊥
 LengthApplies z LineDiffers = ⊥
+LengthApplies z SaysNothing = ⊥
 LengthApplies z Full = ⊥
 LengthApplies z NotHeld = ⊥
 
@@ -120,6 +121,8 @@ Applies p f LiteralTooMany = (f .kind ≡ 2) × Within (resultOf p f) (f .clause
 Applies p f NoLine = (f .kind ≡ 1) × (ruleLines (p .edition) (p .rules) ≤ f .line)
 -- given clause differs from its rule line
 Applies p f LineDiffers = (f .kind ≡ 1) × (f .clause ≡ ruleLine (p .edition) (p .rules) (f .line) → ⊥)
+-- given clause holds a variable both ways
+Applies p f SaysNothing = (f .kind ≡ 1) × BothWays (f .clause)
 -- node record, and every slot holds a node
 Applies p f Full = ((f .kind ≡ 1) ⊎ (f .kind ≡ 2)) × p .Crowded
 -- the others are of no record
@@ -132,7 +135,9 @@ Applies p f NotHeld = ⊥
 
 -- the order in which the checks of a record are tried
 abbrev pub checksInOrder : List Reason
-checksInOrder = Kind ∷ NotZero ∷ Pivot ∷ NotEarlier ∷ Dropped ∷ PivotMissing ∷ LiteralMissing ∷ LiteralTooMany ∷ NoLine ∷ LineDiffers ∷ Full ∷ []
+checksInOrder =
+    Kind ∷ NotZero ∷ Pivot ∷ NotEarlier ∷ Dropped ∷ PivotMissing ∷ LiteralMissing ∷ LiteralTooMany
+    ∷ NoLine ∷ LineDiffers ∷ SaysNothing ∷ Full ∷ []
 
 -- a record with these columns is refused for this reason
 abbrev pub RefusedFor : Place → Fields → Reason → Type 0

@@ -2,7 +2,7 @@
 ghost use mathlib.Core.Path.{_≡_};
 ghost use Rattle.clause.specs.Denote.{literalsOf};
 ghost use Rattle.sheet.specs.Editions.{narrow};
-ghost use Rattle.sheet.specs.Checks.{checkTable, checkLengths, checkEarlier, checkResult, checkStep, checkGiven};
+ghost use Rattle.sheet.specs.Checks.{checkTable, checkLengths, checkEarlier, checkResult, checkStep, checkOneWay, checkGiven};
 use clause::Clause;
 use sheet::LineNo;
 use sheet::NodeNo;
@@ -70,13 +70,23 @@ pub fn check_step(p: u8, l: Clause, r: Clause, c: Clause) -> Verdict
     Verdict::Refused(Reason::PivotMissing)
 }
 
+// 17: given clause holds a variable both ways.
+fn check_one_way(c: Clause) -> Verdict
+    ensures { λ v. ⌜ v ≡ checkOneWay (literalsOf c) ⌝ }
+{
+    if clause::both_ways(c) {
+        return Verdict::Refused(Reason::SaysNothing);
+    }
+    Verdict::Fine
+}
+
 // 13: rule line beyond the table. 14: given clause differs from its rule line.
 pub fn check_given(rules: &[u8], line: LineNo, c: Clause) -> Verdict
     ensures { λ v. ⌜ v ≡ checkGiven narrow (now (rules .entry)) (line .0) (literalsOf c) ⌝ }
 {
     if line.index() < lines::line_count(rules) {
         if clause::same(c, lines::line_at(rules, line)) {
-            return Verdict::Fine;
+            return check_one_way(c);
         }
         return Verdict::Refused(Reason::LineDiffers);
     }

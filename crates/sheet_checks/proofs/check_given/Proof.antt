@@ -21,12 +21,15 @@ line-at-requires c κs = search needs
 same-requires : tie.Need-same-requires
 same-requires c κs = search needs
 
+check-one-way-requires : tie.Need-check-one-way-requires
+check-one-way-requires c κs = search needs
+
 returns : tie.Need-returns
 unfolding checkGiven unless
 returns c =
-    let a = c .before .before .before .before .before .before .before .args in
+    let a = c .before .before .before .before .before .before .before .before .args in
     let inside = lt-ltb (a .line .0) (ruleLines narrow (now (a .rules))) (omega arith) in
-    simp (inside, ← c .before .before .line-at .ensures, ← c .before .same .ensures, c .if2 .taken)
+    simp (inside, ← c .before .before .before .line-at .ensures, ← c .before .before .same .ensures, c .before .if2 .taken) (c .check-one-way .ensures)
 
 returns-2 : tie.Need-returns-2
 unfolding checkGiven unless
@@ -49,6 +52,7 @@ check-given-spec =
     line-count-requires
     line-at-requires
     same-requires
+    check-one-way-requires
     returns
     returns-2
     returns-3)
