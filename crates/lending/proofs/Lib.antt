@@ -1,4 +1,5 @@
 pub mod Calls
+pub mod Constants
 pub mod Facts
 pub mod Fields
 pub mod Leaving

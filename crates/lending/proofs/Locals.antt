@@ -43,11 +43,11 @@ then (exit n) = skip
 then return = skip
 then (call f xs d) = skip
 
-abbrev opd-literal : Opd → ℕ
+abbrev pub opd-literal : Opd → ℕ
 opd-literal (int w n) = n
 opd-literal (copy p) = 0
 opd-literal (intNeg w n) = 0
-opd-literal (intBig w n) = 0
+opd-literal (intBig w n) = n
 opd-literal (float f n) = 0
 opd-literal opdTrue = 0
 opd-literal opdFalse = 0

@@ -40,6 +40,7 @@ use mathlib.Core.Bool.{true, false}
 use lib.Dec.{lit<}
 use lib.Ieee.Bits.{is-true, is-false}
 use Rattle.lending.proofs.Calls.{call-plain}
+use Rattle.lending.proofs.Constants.{constant}
 use Rattle.lending.proofs.Facts.{beside}
 use Rattle.lending.proofs.Fields.{load-field}
 use Rattle.lending.proofs.Leaving.{leaves}
@@ -206,7 +207,7 @@ module _ {M : Type 1} (𝓤 : URA M) (H : Heap 𝓤) (A : Atoms 𝓤) (W : Given
         assigns ! (of-opd ! (load ! (from ! (fld ! refl (stop !))) (look-in ! 40 (sub ! 1 refl (whole !))))) (from ! (stop !)) (init ! 30 refl (tt, record { fits = room₁ .0 })) $
         call-plain ! fm lengths′.ended (lengths′.clauses 𝓤 H A at-mem run) (known .lengths) tt tt tt (id⊢ 𝓤 _) (uint-makes 𝓤 H A W w64, (uint-makes 𝓤 H A W w64, (uint-makes 𝓤 H A W w64, tt))) verdict-val (EL.tells J.the-type J′.the-laws)
         (literal m.s-3, (length (sheet .now), (length (rules .now), tt))) (vint w64 (literal m.s-3) ∷ [], (vint w64 (length (sheet .now)) ∷ [], (vint w64 (length (rules .now)) ∷ [], tt))) ((refl, lit< tt), ((refl, room₀ .0), ((refl, room₁ .0), tt))) tt (id⊢ 𝓤 _) (λ v. v ≡ checkLengths narrow (literal m.s-3) (length (sheet .now)) (length (rules .now))) (λ v e. id⊢ 𝓤 _)
-        (and-then ! (lit ! tt) (and-then ! (load ! (from ! (stop !)) (look ! 33 refl)) (and-then ! (load ! (from ! (stop !)) (look ! 31 refl)) (no-more !)))) (λ v e gv.
+        (and-then ! (constant ! tt) (and-then ! (load ! (from ! (stop !)) (look ! 33 refl)) (and-then ! (load ! (from ! (stop !)) (look ! 31 refl)) (no-more !)))) (λ v e gv.
         land ! (from ! (stop !)) (init ! 36 refl (EL.lawful J.the-type J′.the-laws 𝓤 H A W tt .typed v _ gv .0)) $
         call-passes ! at-mem run fm (known .passes) v gv (and-then ! (load ! (from ! (stop !)) (look ! 37 refl)) (no-more !)) (λ c e-c.
         land ! (from ! (stop !)) (init ! 28 refl (tt, tt)) $
