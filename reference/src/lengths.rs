@@ -4,8 +4,8 @@ use crate::refusal::Refusal;
 
 pub const RECORD: usize = 24;
 pub const LINE: usize = 16;
-pub const PRESS_RECORDS: usize = 512;
-pub const REPLAY_RECORDS: usize = 1023;
+pub const PRESS_RECORDS: usize = 1024;
+pub const REPLAY_RECORDS: usize = 2047;
 pub const RULE_LINES: usize = 1024;
 
 /// "Checks 1 to 5 come first, in number order": here 1 to 4, which the press
@@ -35,6 +35,6 @@ pub fn check_room(sheet: usize, rules: usize, room: usize, marks: usize) -> Resu
     Ok(())
 }
 
-pub fn room_needed(records: usize) -> usize {
+pub const fn room_needed(records: usize) -> usize {
     48 * records - 24
 }

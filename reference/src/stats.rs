@@ -59,9 +59,9 @@ impl Stats {
                 let proof = read_proof(sheet, rules).expect("it was accepted");
                 self.count_events(&pass_events(&run_passes(proof)));
                 self.count_events(&[
-                    ("press: 512 records accepted", records == PRESS_RECORDS),
+                    ("press: most records accepted", records == PRESS_RECORDS),
                     ("press: room exactly 48N-24", room == room_needed(records)),
-                    ("press: 1024 rule lines", rules.len() / LINE == RULE_LINES),
+                    ("press: most rule lines", rules.len() / LINE == RULE_LINES),
                     (
                         "press: an unused line holds v both ways",
                         rules
@@ -90,7 +90,7 @@ impl Stats {
                     ("replay: accepted with drops", seen.dropped),
                     ("replay: a slot used again", seen.reused),
                     ("replay: slots exactly peak", seen.peak == slots),
-                    ("replay: 1023 records accepted", records == REPLAY_RECORDS),
+                    ("replay: most records accepted", records == REPLAY_RECORDS),
                 ]);
             }
         }

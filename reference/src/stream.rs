@@ -14,16 +14,19 @@
 //! refused record there is none.
 
 use crate::cases::{draw, Case, Size};
-use crate::lengths::{check_inputs, LINE, RECORD, REPLAY_RECORDS};
+use crate::lengths::{
+    check_inputs, room_needed, LINE, PRESS_RECORDS, RECORD, REPLAY_RECORDS, RULE_LINES,
+};
 use crate::press::press;
 use crate::replay::{replay, step, Slot, Tally};
 use crate::text::{hex, pressed_line, refused, replayed_line, trace_line};
 
-/// The most that a program that runs a stream has memory for.
-pub const SHEET: usize = 24_600;
-pub const RULES: usize = 16_400;
-pub const ROOM: usize = 24_612;
-pub const MARKS: usize = 1_084;
+/// The most that a program that runs a stream has memory for: a little more
+/// than the limits allow.
+pub const SHEET: usize = (REPLAY_RECORDS + 2) * RECORD;
+pub const RULES: usize = (RULE_LINES + 1) * LINE;
+pub const ROOM: usize = room_needed(PRESS_RECORDS) + 60;
+pub const MARKS: usize = RULE_LINES + 60;
 
 /// What output and marks hold before a press.
 const OLD: u8 = 0xA5;

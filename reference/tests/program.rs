@@ -42,7 +42,7 @@ fn a_longer_old_file_is_replaced() {
 fn refusals_leave_the_file_alone() {
     let rules = pair().table();
     let late = sheet(&[given(0, "+0"), given(1, "-0"), step(0, 2, 1, "")]);
-    let long = vec![0; 513 * 24];
+    let long = vec![0; 1025 * 24];
     let longer = vec![0; 100_000 * 24 + 5];
     let pair = pair().sheet();
     let cases: [(&[u8], &[u8], &str); 6] = [

@@ -25,8 +25,8 @@ fn lengths_in_number_order() {
     let ragged_rules = &rules[..31];
     refused_by_both(&sheet[..71], ragged_rules, (1, 0));
     refused_by_both(&[], ragged_rules, (2, 0));
-    refused_by_both(&vec![0; 1024 * 24], ragged_rules, (3, 0));
-    refused_by_both(&vec![0; 1024 * 24 + 1], ragged_rules, (1, 0));
+    refused_by_both(&vec![0; 2048 * 24], ragged_rules, (3, 0));
+    refused_by_both(&vec![0; 2048 * 24 + 1], ragged_rules, (1, 0));
     refused_by_both(&sheet, ragged_rules, (4, 0));
     refused_by_both(&sheet, &vec![0; 1025 * 16], (4, 0));
     assert_eq!(press_refused_with(&sheet, ragged_rules, 0, 0), (4, 0));

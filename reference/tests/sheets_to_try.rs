@@ -221,8 +221,8 @@ fn room_for_three_records() {
 fn numbers_of_records() {
     let table = rules(&["+0"]);
     let of = |count: usize| sheet(&vec![given(0, "+0"); count]);
-    assert_eq!(press_ok(&of(512), &table).pressed.records, 1);
-    assert_eq!(press_refused(&of(513), &table), (3, 0));
-    assert!(replay_answer(&of(1023), &table, 1023).is_ok());
-    assert_eq!(replay_answer(&of(1024), &table, 1024), Err((3, 0)));
+    assert_eq!(press_ok(&of(1024), &table).pressed.records, 1);
+    assert_eq!(press_refused(&of(1025), &table), (3, 0));
+    assert!(replay_answer(&of(2047), &table, 2047).is_ok());
+    assert_eq!(replay_answer(&of(2048), &table, 2048), Err((3, 0)));
 }

@@ -51,8 +51,8 @@ fn the_worked_cases_are_committed() {
     has_every_answer(&text);
     // a sheet with as many records as may be, and one with a record more
     for (most, over) in [
-        ("press 12288 ", "press 12312 "),
-        ("replay 24552 ", "replay 24576 "),
+        ("press 24576 ", "press 24600 "),
+        ("replay 49128 ", "replay 49152 "),
     ] {
         assert!(has(&text, most, "= ok ") && has(&text, over, "= refused 3 0"));
     }

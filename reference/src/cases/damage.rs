@@ -1,6 +1,6 @@
 //! Damage to the bytes of a sheet or a rule table.
 
-use crate::lengths::{LINE, RECORD, RULE_LINES};
+use crate::lengths::{LINE, PRESS_RECORDS, RECORD, RULE_LINES};
 use crate::record::{number, put_number, Record};
 use crate::rng::Rng;
 
@@ -48,7 +48,10 @@ fn spoil_step(rng: &mut Rng, bytes: &mut [u8], record: usize) {
     match rng.below(8) {
         0 => bytes[1] = rng.pick(&[64, 65, 127, 128, 255]),
         1 => bytes[1] = rng.below(64) as u8,
-        2 => put_number(bytes, side, rng.pick(&[record, record + 1, 512, 0xFFFF])),
+        2 => {
+            let later = [record, record + 1, PRESS_RECORDS, 0xFFFF];
+            put_number(bytes, side, rng.pick(&later));
+        }
         3 => put_number(bytes, side, rng.below(record + 1)),
         4 => {
             put_number(bytes, side, rng.below(record + 1));

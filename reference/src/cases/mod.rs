@@ -10,6 +10,7 @@ pub mod press_cases;
 pub mod replay_cases;
 pub mod shapes;
 
+use crate::lengths::PRESS_RECORDS;
 use crate::rng::Rng;
 
 /// The arguments of one call. `room` and `marks` are lengths in bytes, `slots`
@@ -30,7 +31,7 @@ pub enum Case {
 }
 
 /// Small cases stay within about 16 records, for a slow evaluator; they can't
-/// reach the refusals that need over 512 records or over 1,024 rule lines.
+/// reach the refusals that need a sheet or a rule table beyond its limit.
 #[derive(Clone, Copy, Debug, PartialEq, Eq)]
 pub enum Size {
     Small,
@@ -48,8 +49,8 @@ impl Size {
             (Size::Any, 3) => rng.between(2, 4),
             (Size::Any, 4..=9) => rng.between(4, 16),
             (Size::Any, 10..=16) => rng.between(12, 60),
-            (Size::Any, 17..=18) => rng.between(60, 512),
-            (Size::Any, _) => 512,
+            (Size::Any, 17..=18) => rng.between(60, PRESS_RECORDS),
+            (Size::Any, _) => PRESS_RECORDS,
         }
     }
 }

@@ -96,10 +96,11 @@ fn shuffled(rng: &mut Rng, draft: &Draft) -> Draft {
 
 /// Rule lines nobody names, now and then as many as the table may have.
 fn add_rule_lines(rng: &mut Rng, variables: &[u8], draft: &mut Draft) {
+    let room = RULE_LINES - draft.rules.len();
     let more = if draft.nodes.len() > 16 && rng.chance(5) {
-        RULE_LINES - draft.rules.len()
+        room
     } else {
-        rng.pick(&[0, 0, 0, 1, 3])
+        room.min(rng.pick(&[0, 0, 0, 1, 3]))
     };
     for _ in 0..more {
         draft.rules.push(clause(rng, variables, 2));

@@ -1,6 +1,7 @@
 //! "Sheets to try", in the words of document 01.
 
 use super::{dropped, given, step, Worked};
+use crate::lengths::PRESS_RECORDS;
 
 pub fn lone() -> Worked {
     Worked::new("lone", &["+0"], &[given(0, "+0")])
@@ -80,11 +81,12 @@ pub fn forward() -> Worked {
 }
 
 /// Two givens make {+0,-0}, and then steps each name the node before on both
-/// sides: 512 records, of which the last is cut, and the placing goes 510 deep.
+/// sides: as many records as may be, of which the last is cut, and the placing
+/// goes 1,022 deep.
 pub fn deep() -> Worked {
     let mut records = vec![given(0, "+0 +1"), given(1, "-0 -1")];
     records.push(step(1, 0, 1, "+0 -0"));
-    records.extend((2..511).map(|node| step(0, node, node, "+0 -0")));
+    records.extend((2..PRESS_RECORDS - 1).map(|node| step(0, node, node, "+0 -0")));
     Worked::new("deep", &["+0 +1", "-0 -1"], &records)
 }
 

@@ -3,10 +3,10 @@
 use super::{
     both, both_of, long_replay, press, press_in, press_sheet, pressed, replay, replay_sheet,
 };
-use crate::lengths::LINE;
+use crate::lengths::{LINE, PRESS_RECORDS, REPLAY_RECORDS, RULE_LINES};
 use crate::sheets::starred::*;
 use crate::sheets::{given, rules, sheet, step};
-use crate::stream::Entry;
+use crate::stream::{Entry, MARKS, ROOM};
 
 pub fn presses() -> Vec<Entry> {
     pressable().iter().map(press_sheet).collect()
@@ -43,23 +43,21 @@ pub fn limits() -> Vec<Entry> {
     let (pair_sheet, pair_rules) = pair().bytes();
     let table = rules(&["+0"]);
     let givens = |count: usize| sheet(&vec![given(0, "+0"); count]);
-    let lines = |count: usize| [pair_rules.clone(), vec![0; (count - 2) * LINE]].concat();
+    let lines = [pair_rules.clone(), vec![0; (RULE_LINES - 1) * LINE]].concat();
+    let (most, most_replayed) = (PRESS_RECORDS, REPLAY_RECORDS);
     vec![
-        // 512 records are not refused by 3, 513 are, with a table that is 4
-        press(&givens(512), &table),
-        press_in(&givens(513), &table[1..], 24_612, 8),
-        // 1 comes before 3
-        press_in(&givens(513)[1..], &table[1..], 24_612, 8),
-        // for the replay 1,023 and 1,024
-        long_replay(&givens(1023), &table, 1023),
-        long_replay(&givens(1024), &table[1..], 1024),
+        // as many as may be are not refused by 3, one more is, with a table
+        // that is 4; so for the replay
+        press(&givens(most), &table),
+        press_in(&givens(most + 1), &table[1..], ROOM, 8),
+        long_replay(&givens(most_replayed), &table, most_replayed),
+        long_replay(&givens(most_replayed + 1), &table[1..], most_replayed + 1),
         // for three records, room of 120 bytes is enough, 119 is 5
         press_in(&pair_sheet, &pair_rules, 120, 2),
         press_in(&pair_sheet, &pair_rules, 119, 2),
         // a mark for each rule line is enough, one less is 5
         press_in(&pair_sheet, &pair_rules, 120, 1),
-        // 1,024 lines are not refused by 4, 1,025 are
-        press(&pair_sheet, &lines(1024)),
-        press_in(&pair_sheet, &lines(1025), 120, 1084),
+        // 4: one rule line too many
+        press_in(&pair_sheet, &lines, 120, MARKS),
     ]
 }
