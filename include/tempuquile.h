@@ -23,7 +23,7 @@ extern "C" {
 #define TEMPUQUILE_OK 0
 #define TEMPUQUILE_RAGGED 1            /* the sheet's length is no multiple of 24 */
 #define TEMPUQUILE_EMPTY 2             /* the sheet is empty */
-#define TEMPUQUILE_LONG 3              /* over 512 records (press), over 1,023 (replay) */
+#define TEMPUQUILE_LONG 3              /* over 1,024 records (press), over 2,047 (replay) */
 #define TEMPUQUILE_TABLE 4             /* the rule table's length is no multiple of 16, or it has over 1,024 lines */
 #define TEMPUQUILE_ROOM 5              /* press: out is under 48 N - 24 bytes for N records, or marks are fewer than the rule lines */
 #define TEMPUQUILE_KIND 6              /* unknown kind; for the press a drop too */

@@ -1,11 +1,13 @@
 """The cases of program.py."""
 import errno, os, struct, subprocess, threading, time
 
-from failures import Interrupts, can_fail, can_interrupt, failing, file_limit, no_output
+from failures import Interrupts, can_fail, can_interrupt, failing, file_limit, no_output, stack_limit
 from folders import FOLDER, PARTS, Link, second_program
 
 REFERENCE = second_program()
 OLD = b"old" * 167  # 501 bytes, longer than what is written over it here
+MOST = 1024  # records of a sheet
+STACK = 384 * 1024  # bytes that the program runs in, as docs/MEMORY.md states
 
 
 # ---- sheets and rule tables
@@ -44,9 +46,9 @@ WORKED = worked()
 RULES, PAIR, PAIR_OUT = WORKED["pair"]
 GIVENS = PAIR[:48]
 PAIR_OK = "ok records 5 nodes 3 steps 1 peak 3 core 2"
-# 512 records that are placed 510 deep
+# MOST records that are placed 1,022 deep
 DEEP_RULES, DEEP, DEEP_OUT = WORKED["deep"]
-DEEP_OK = "ok records 1021 nodes 511 steps 509 peak 3 core 2"
+DEEP_OK = "ok records 2045 nodes 1023 steps 1021 peak 3 core 2"
 
 
 def files(sheet=PAIR, rules=RULES, **more):
@@ -145,8 +147,8 @@ def in_pieces(t):
                 pipe.write(data[at : at + size])
                 time.sleep(0.002)
 
-    long = given(0, "+0") * 600
-    for name, sheet, line in [("pair", PAIR, PAIR_OK), ("600 records", long, "refused 3"), ("600 records less a byte", long[:-1], "refused 1")]:
+    long = given(0, "+0") * (MOST + 90)
+    for name, sheet, line in [("pair", PAIR, PAIR_OK), ("a long sheet", long, "refused 3"), ("a long sheet less a byte", long[:-1], "refused 1")]:
         with t.folder({}) as place:
             feeders = []
             for file, data, size in [("rules.bin", RULES, 5), ("sheet.bin", sheet, max(7, len(sheet) // 40))]:
@@ -172,11 +174,11 @@ def refused(t):
     case("ragged, and the table too", "refused 1", PAIR[:-1], RULES[:-1])
     case("an empty sheet", "refused 2", b"")
     case("an empty sheet and a ragged table", "refused 2", b"", RULES[:-1])
-    case("513 records", "refused 3", given(0, "+0") * 513)
-    case("513 records and a ragged table", "refused 3", given(0, "+0") * 513, RULES[:-1])
+    case("a record too many", "refused 3", given(0, "+0") * (MOST + 1))
+    case("a record too many and a ragged table", "refused 3", given(0, "+0") * (MOST + 1), RULES[:-1])
     case("a ragged table", "refused 4", rules=RULES[:-1])
     case("1,025 lines", "refused 4", rules=RULES + bytes(1023 * 16))
-    case("512 records and 1,025 lines", "refused 4", given(0, "+0") * 512, RULES + bytes(1023 * 16))
+    case("the most records and 1,025 lines", "refused 4", given(0, "+0") * MOST, RULES + bytes(1023 * 16))
     case("kind 0", "refused 6 at 2", GIVENS + bytes(24))
     case("kind 4", "refused 6 at 1", given(0, "+0") + given(0, "+0", kind=4))
     case("a drop", "refused 6 at 0", drop(0) + PAIR)
@@ -213,8 +215,8 @@ def refused(t):
 
 def lengths(t):
     ok = "ok records 1 nodes 1 steps 0 peak 1 core 1"
-    t.answers("512 records", files(given(0, "+0") * 512), ok, given(0, "+0"))
-    t.answers("deep, over a longer file", files(DEEP, DEEP_RULES, pressed=bytes(30000)), DEEP_OK, DEEP_OUT)
+    t.answers("the most records", files(given(0, "+0") * MOST), ok, given(0, "+0"))
+    t.answers("deep, over a longer file", files(DEEP, DEEP_RULES, pressed=bytes(60000)), DEEP_OK, DEEP_OUT)
     t.answers("1,024 lines", files(PAIR, RULES + bytes(1022 * 16)), PAIR_OK, PAIR_OUT)
     most = 100 * 1024 * 1024
     t.answers("100 MB, not a multiple of 24", files(most), "refused 1")
@@ -224,12 +226,25 @@ def lengths(t):
     t.answers("100 MB of rules and a byte", files(PAIR, most + 1), "refused 4")
     t.answers("100 MB of rules, no sheet", files(b"", most), "refused 2")
     # what is read past the buffers is read in pieces of 65,536 bytes
-    for records in [513, 514, 1023, 1024, 3242, 3243, 3244]:
+    piece = 65536 // 24
+    for records in [MOST + past for past in [1, 2, MOST - 1, MOST, piece, piece + 1, piece + 2]]:
         t.answers(f"{records} records", files(24 * records), "refused 3")
         t.answers(f"{records} records and a byte", files(24 * records + 1), "refused 1")
     for lines in [1025, 1026, 5119, 5120, 5121]:
         t.answers(f"{lines} lines", files(rules=16 * lines), "refused 4")
         t.answers(f"{lines} lines less a byte", files(rules=16 * lines - 1), "refused 4")
+    in_little_stack(t)
+
+
+def in_little_stack(t):
+    """The deepest sheet with the longest table, in the stack that docs/MEMORY.md states."""
+    if "qemu" in t.words[0]:
+        print("not run: little stack (the emulator gives the program one of its own)")
+        return
+    rules = DEEP_RULES + bytes(1022 * 16)
+    t.answers("deep, in little stack", files(DEEP, rules), DEEP_OK, DEEP_OUT, before=stack_limit(STACK))
+    old = files(DEEP, rules, pressed=OLD)
+    t.answers("the same, in place", old, DEEP_OK, DEEP_OUT, before=stack_limit(STACK), folder_mode=0o555)
 
 
 # ---- what cannot be read
@@ -260,10 +275,10 @@ def unreadable(t):
         return
     # a read asks for what is left of the buffer, so the second read of a short file is known by its size
     case("rules.bin fails half way", no_rules, files(), before=failing("read", errno.EIO, 16384 - len(RULES)))
-    case("sheet.bin fails half way", no_sheet, files(), before=failing("read", errno.EIO, 12288 - len(PAIR)))
-    case("a long sheet.bin fails half way", no_sheet, files(24 * 600), before=failing("read", errno.EIO, 65536))
+    case("sheet.bin fails half way", no_sheet, files(), before=failing("read", errno.EIO, 24 * MOST - len(PAIR)))
+    case("a long sheet.bin fails half way", no_sheet, files(24 * (MOST + 90)), before=failing("read", errno.EIO, 65536))
     case("a long rules.bin fails half way", no_rules, files(rules=16 * 2000), before=failing("read", errno.EIO, 65536))
-    case("both fail half way", no_rules, files(24 * 600, 16 * 2000), before=failing("read", errno.EIO, 65536))
+    case("both fail half way", no_rules, files(24 * (MOST + 90), 16 * 2000), before=failing("read", errno.EIO, 65536))
 
 
 # ---- what cannot be written
@@ -294,7 +309,7 @@ def unwritable(t, disk):
                 t.answers(f"no room after {most} of {len(old)} bytes", files(pressed=old), line, old, before=file_limit(most), folder_mode=mode)
     t.answers("room for all bytes", files(pressed=OLD), PAIR_OK, PAIR_OUT, before=file_limit(len(PAIR_OUT)))
     deep = files(DEEP, DEEP_RULES, pressed=OLD)
-    t.answers("no room for the last of 1,023 records", deep, line, OLD, before=file_limit(len(DEEP_OUT) - 1))
+    t.answers("no room for the last of 2,045 records", deep, line, OLD, before=file_limit(len(DEEP_OUT) - 1))
     if disk:
         # a page each for rules.bin, sheet.bin and pressed.bin, and none for the part
         t.answers("a full disk, over a pressed.bin", files(pressed=OLD), PAIR_OK, PAIR_OUT, at=disk)

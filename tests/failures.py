@@ -152,6 +152,11 @@ def file_limit(most):
     return before
 
 
+def stack_limit(most):
+    """The child's stack has no more than so many bytes."""
+    return lambda: resource.setrlimit(resource.RLIMIT_STACK, (most, most))
+
+
 def no_output():
     """Standard output is closed."""
     os.close(1)

@@ -34,7 +34,7 @@ asks for something, or says of lent memory only what a view of it shows, is list
 VIEWS = r"linksIn|nodesIn|fatesIn|reachesIn|orderIn|judgedIn|take|length"
 
 # The limits of the scope document, and where the code and the definitions give them names.
-LIMITS = re.compile(r"(?<![\w.'])(512|1_?023|1_?024|64|24|16)(?![\w'])")
+LIMITS = re.compile(r"(?<![\w.'])(512|1_?023|1_?024|2_?047|64|24|16)(?![\w'])")
 NAMED = ("sheet/src/limits.rt", "sheet/specs/Editions.antt")
 # Other places that may write one of these numbers: the file, what the line has (nothing: any line), and why.
 ALLOWED = [
@@ -44,8 +44,8 @@ ALLOWED = [
     ("sheet/src/lib.rt", "Reason::NotHeld => 16", "the number of a refusal"),
     ("demands/specs/Starred.antt", "", "worked sheets, byte by byte"),
     ("demands/specs/Telling.antt", "", "worked sheets, byte by byte"),
-    ("demands/specs/Limits.antt", "PressLimit 512 513", "the document's own numbers; the proof compares them with the named limit"),
-    ("demands/specs/Limits.antt", "ReplayLimit 1023 1024", "the same for the replay"),
+    ("demands/specs/Limits.antt", "PressLimit 1024 1025", "the document's own numbers; the proof compares them with the named limit"),
+    ("demands/specs/Limits.antt", "ReplayLimit 2047 2048", "the same for the replay"),
     ("stdio/src/text.rt", "SET_DIGITS: usize = 16", "the hex digits of a word"),
     ("stdio/src/text.rt", "% 16", "the base of hex digits"),
     ("stdio/src/text.rt", "/ 16", "the base of hex digits"),

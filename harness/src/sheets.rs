@@ -72,9 +72,9 @@ pub fn all() -> Vec<Sheet> {
     ["pair"].into_iter().chain(shapes).flat_map(named).collect()
 }
 
-/// Each shape at four sizes, of which each is twice the one before it.
+/// Each shape at five sizes, of which each is twice the one before it.
 pub fn growing() -> Vec<Vec<Sheet>> {
-    let sizes = [8, 4, 2, 1].map(|part| PRESS_RECORDS / part);
+    let sizes = [16, 8, 4, 2, 1].map(|part| PRESS_RECORDS / part);
     let at = |name: &str| sizes.map(|size| format!("{name}-{size}"));
     let shapes = SHAPES.iter().map(|(name, _)| at(name));
     shapes

@@ -63,7 +63,7 @@ fn a_slot_in_use_lies_as_the_header_says() {
     let began = Instant::now();
     thread::scope(|scope| {
         scope.spawn(|| {
-            for n in [1, 500, 1022] {
+            for n in [1, 1000, REPLAY_RECORDS - 1] {
                 while !look(&row, n) {
                     assert!(began.elapsed() < PATIENCE, "slot {n} never seen in use");
                 }
@@ -86,7 +86,8 @@ fn a_slot_in_use_lies_as_the_header_says() {
                 )
             };
             assert_eq!(code, 0);
-            assert_eq!(report, [0, POSITIVE, NEGATIVE, 1023, 0, 1023]);
+            let nodes = REPLAY_RECORDS as u64;
+            assert_eq!(report, [0, POSITIVE, NEGATIVE, nodes, 0, nodes]);
         }
     });
     assert!(seen.load(Relaxed));

@@ -6,9 +6,9 @@
 //
 //   byte 0   what is run: 0 the press, 1 the replay, 2 the replay, shown record by record
 //   byte 1   zero
-//   2-3      bytes of the sheet, at most 24,600
+//   2-3      bytes of the sheet, at most 49,176
 //   4-5      bytes of the rule table, at most 16,400
-//   6-7      bytes of room for the press, at most 24,612; slots for the replay
+//   6-7      bytes of room for the press, at most 49,188; slots for the replay
 //   8-9      bytes of marks for the press, at most 1,084; zero for the replay
 //
 // Of a length beyond its limit the limit is taken. The stream ends where no whole case follows.

@@ -1,4 +1,4 @@
--- "512 records not refused by 3, 513 are"; and 1,023 and 1,024 of the replay. Said of any bytes of so many records, whatever they hold, and
+-- "1,024 input records and 2,047 for the replay": so many are not refused by 3, one more is. Said of any bytes of so many records, whatever they hold, and
 -- of whatever rule table, room, marks and slots are lent.
 use Prim.Native.Nat.{ℕ, _-_, _*_, _%_, _<_, _≤_}
 use mathlib.Core.Path.{_≡_}
@@ -87,4 +87,4 @@ pub record ReplayLimit (last first : ℕ) : Type 0 where
   pub turns-away : ReplayTurnsAway narrow first
 
 abbrev pub AtTheLimits : Type 0
-AtTheLimits = PressLimit 512 513 × ReplayLimit 1023 1024
+AtTheLimits = PressLimit 1024 1025 × ReplayLimit 2047 2048

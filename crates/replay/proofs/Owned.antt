@@ -1,4 +1,4 @@
--- A row of as many empty slots as are asked for, or of 1,023.
+-- A row of as many empty slots as are asked for, or of the most that can be needed.
 use mathlib.Core.Path.{_≡_, refl, sym, ap, subst}
 use Prim.Native.Nat.{ℕ, zero, suc, _≤_, min}
 use native.Mathlib.Omega.{arith}

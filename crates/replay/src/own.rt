@@ -1,5 +1,5 @@
-// The replay in a row of its own, for callers with no slots to lend. No replay within its limit holds more than 1,023 nodes, so any
-// larger number of slots answers as 1,023 does (`replay-plenty`), and a row of 1,023 is enough for every number.
+// The replay in a row of its own, for callers with no slots to lend. No replay holds more nodes than it
+// takes records, so any larger number of slots answers as that one does (`replay-plenty`), and a row of so many is enough for every number.
 ghost use mathlib.Core.Path.{_≡_};
 ghost use Prim.Native.Nat.{min};
 ghost use lib.ListN.{replicate};
@@ -9,7 +9,7 @@ ghost use Rattle.replay_spec.specs.Replay.{replay};
 ghost use Rattle.replay_answer.specs.Answers.{said};
 use replay_answer::ReplayAnswer;
 
-// At most 1,023.
+// At most as many as there may be records.
 pub fn enough(slots: usize) -> usize
     ensures { λ n. ⌜ n ≡ min slots (replayRecords narrow) ⌝ }
 {

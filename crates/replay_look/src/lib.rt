@@ -57,7 +57,7 @@ fn look_from(sheet: &[u8], rules: &[u8], slots: &mut [Slot], records: usize, at:
     }
 }
 
-// In a row of as many slots, but of at most 1,023.
+// In a row of as many slots, but of no more than there may be records.
 pub fn look_after(sheet: &[u8], rules: &[u8], slots: usize, records: usize, at: SlotNo) -> Look
     ensures { λ r. ⌜ lookOf r ≡ lookAt (at .0) (afterRecords narrow (now (rules .entry)) (now (sheet .entry)) (state nothing (replicate (min slots (replayRecords narrow)) empty)) (min records (length (now (sheet .entry)) / recordBytes narrow))) ⌝ }
 {

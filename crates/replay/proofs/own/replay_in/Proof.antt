@@ -1,4 +1,4 @@
--- `own::replay_in` meets its contract: a walk of its MIR, by hand. A local array of 1,023 empty slots is made, as many of its first as are asked for, or all, are lent to `replay` as a row, and the array is whole again when it is freed.
+-- `own::replay_in` meets its contract: a walk of its MIR, by hand. A local array of as many empty slots as there may be records is made, as many of its first as are asked for, or all, are lent to `replay` as a row, and the array is whole again when it is freed.
 -- No list is computed: the array's laws (`lending`'s `Arrays`) have its length as a variable.
 -- Assumes nothing.
 use mathlib.Core.Path.{_≡_, refl, sym, ap, _∙_}
