@@ -1,9 +1,10 @@
 //! "A clause is a set of literals", and here it is literally one.
 
+use crate::edition::Edition;
 use std::collections::BTreeSet;
 use std::fmt;
 
-/// "Variables are 0 to 63; literals are written +v and -v."
+/// "literals are written +v and -v."
 #[derive(Clone, Copy, PartialEq, Eq, PartialOrd, Ord)]
 pub enum Literal {
     Plus(u8),
@@ -29,20 +30,23 @@ impl Literal {
 pub struct Clause(BTreeSet<Literal>);
 
 impl Clause {
-    /// Reads a positive set followed by a negative set, eight bytes each.
+    /// Reads a positive set followed by a negative set, equally long.
     pub fn read(sets: &[u8]) -> Clause {
-        let positive = variables(&sets[0..8]).into_iter().map(Literal::Plus);
-        let negative = variables(&sets[8..16]).into_iter().map(Literal::Minus);
+        let (positive, negative) = sets.split_at(sets.len() / 2);
+        let positive = variables(positive).into_iter().map(Literal::Plus);
+        let negative = variables(negative).into_iter().map(Literal::Minus);
         Clause(positive.chain(negative).collect())
     }
 
-    /// The positive set followed by the negative set, eight bytes each.
-    pub fn write(&self) -> [u8; 16] {
-        let mut sets = [0; 16];
+    /// The positive set followed by the negative set. Every variable must be one
+    /// of the edition's.
+    pub fn write(&self, edition: Edition) -> Vec<u8> {
+        let mut sets = vec![0; edition.line_bytes()];
         for literal in &self.0 {
+            assert!(literal.variable() < edition.variables());
             let (start, v) = match *literal {
                 Literal::Plus(v) => (0, v),
-                Literal::Minus(v) => (8, v),
+                Literal::Minus(v) => (edition.set_bytes(), v),
             };
             sets[start + usize::from(v / 8)] |= 1 << (v % 8);
         }
@@ -72,10 +76,10 @@ impl Clause {
         self.literals().filter(one_way).collect()
     }
 
-    /// The variables that are not in it.
-    pub fn lacking(&self) -> Vec<u8> {
+    /// The edition's variables that are not in it.
+    pub fn lacking(&self, edition: Edition) -> Vec<u8> {
         let lacks = |&v: &u8| !self.holds(Literal::Plus(v)) && !self.holds(Literal::Minus(v));
-        (0..64).filter(lacks).collect()
+        (0..edition.variables()).filter(lacks).collect()
     }
 
     pub fn with(&self, literal: Literal) -> Clause {
@@ -103,16 +107,24 @@ impl Clause {
     }
 
     /// The positive set as a number whose bit v is variable v.
-    pub fn positive(&self) -> u64 {
-        eight(&self.write()[0..8])
+    pub fn positive(&self) -> u128 {
+        let bit = |literal: &Literal| match *literal {
+            Literal::Plus(v) => 1 << v,
+            Literal::Minus(_) => 0,
+        };
+        self.0.iter().map(bit).sum()
     }
 
     /// The negative set as a number whose bit v is variable v.
-    pub fn negative(&self) -> u64 {
-        eight(&self.write()[8..16])
+    pub fn negative(&self) -> u128 {
+        let bit = |literal: &Literal| match *literal {
+            Literal::Plus(_) => 0,
+            Literal::Minus(v) => 1 << v,
+        };
+        self.0.iter().map(bit).sum()
     }
 
-    pub fn from_numbers(positive: u64, negative: u64) -> Clause {
+    pub fn from_numbers(positive: u128, negative: u128) -> Clause {
         Clause::read(&[positive.to_le_bytes(), negative.to_le_bytes()].concat())
     }
 }
@@ -124,18 +136,11 @@ pub fn resolve(pivot: u8, left: &Clause, right: &Clause) -> Clause {
         .joined(&right.without(Literal::Minus(pivot)))
 }
 
-/// "Variable v is bit v mod 8 of byte v div 8 of an eight-byte set."
+/// "Variable v is bit v mod 8 of byte v div 8" of a set.
 fn variables(set: &[u8]) -> Vec<u8> {
-    (0..64)
+    (0..8 * set.len() as u8)
         .filter(|v| set[usize::from(v / 8)] >> (v % 8) & 1 == 1)
         .collect()
-}
-
-fn eight(bytes: &[u8]) -> u64 {
-    bytes
-        .iter()
-        .rev()
-        .fold(0, |number, &byte| number << 8 | u64::from(byte))
 }
 
 impl FromIterator<Literal> for Clause {

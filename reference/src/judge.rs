@@ -1,7 +1,7 @@
 //! Whether one record is good, given what came before it.
 
 use crate::clause::{resolve, Clause, Literal};
-use crate::lengths::LINE;
+use crate::edition::Edition;
 use crate::proof::Node;
 use crate::record::Record;
 use std::collections::BTreeSet;
@@ -15,6 +15,7 @@ pub enum Named {
 
 /// What the judge knows besides the bytes of the record.
 pub struct Around<'a> {
+    pub edition: Edition,
     pub rules: &'a [u8],
     pub is_press: bool,
     pub named: &'a dyn Fn(usize) -> Named,
@@ -41,7 +42,11 @@ pub fn faults(bytes: &[u8], around: &Around) -> BTreeSet<u32> {
         return BTreeSet::from([6]);
     };
     let mut faults = BTreeSet::new();
-    if record.zero_bytes().iter().any(|&at| bytes[at] != 0) {
+    if record
+        .zero_bytes(around.edition)
+        .iter()
+        .any(|&at| bytes[at] != 0)
+    {
         faults.insert(7);
     }
     match record {
@@ -63,7 +68,7 @@ pub fn faults(bytes: &[u8], around: &Around) -> BTreeSet<u32> {
 
 fn node_faults(node: &Node, around: &Around) -> BTreeSet<u32> {
     match node {
-        Node::Given { line, clause } => given_faults(*line, clause, around.rules),
+        Node::Given { line, clause } => given_faults(*line, clause, around),
         Node::Step {
             pivot,
             left,
@@ -72,15 +77,21 @@ fn node_faults(node: &Node, around: &Around) -> BTreeSet<u32> {
         } => {
             let left = (around.named)(*left);
             let right = (around.named)(*right);
-            step_faults(*pivot, &left, &right, clause)
+            let mut faults = step_faults(*pivot, &left, &right, clause);
+            // "8 pivot over 63"; "pivots up to 127" in the wide edition
+            if *pivot >= around.edition.variables() {
+                faults.insert(8);
+            }
+            faults
         }
     }
 }
 
 /// "13 rule line beyond the table", "14 given clause differs from its rule line",
 /// 17 "holding a variable both ways".
-fn given_faults(line: usize, clause: &Clause, rules: &[u8]) -> BTreeSet<u32> {
-    let mut faults = match rules.chunks_exact(LINE).nth(line) {
+fn given_faults(line: usize, clause: &Clause, around: &Around) -> BTreeSet<u32> {
+    let mut lines = around.rules.chunks_exact(around.edition.line_bytes());
+    let mut faults = match lines.nth(line) {
         None => BTreeSet::from([13]),
         Some(rule) if Clause::read(rule) != *clause => BTreeSet::from([14]),
         Some(_) => BTreeSet::new(),
@@ -91,14 +102,11 @@ fn given_faults(line: usize, clause: &Clause, rules: &[u8]) -> BTreeSet<u32> {
     faults
 }
 
-/// "8 pivot over 63", "11 +p missing on the left or -p on the right",
+/// "11 +p missing on the left or -p on the right",
 /// "12 now means that the written clause lacks a literal of the result; a new 18
 /// means that it lacks none but has at least one too many."
 fn step_faults(pivot: u8, left: &Named, right: &Named, written: &Clause) -> BTreeSet<u32> {
     let mut faults = BTreeSet::new();
-    if pivot > 63 {
-        faults.insert(8);
-    }
     faults.extend(naming_fault(left));
     faults.extend(naming_fault(right));
     if let (Named::Held(left), Named::Held(right)) = (left, right) {

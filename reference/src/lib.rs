@@ -6,6 +6,7 @@
 
 pub mod cases;
 pub mod clause;
+pub mod edition;
 pub mod events;
 pub mod judge;
 pub mod lengths;

@@ -1,7 +1,8 @@
 //! The press.
 
+use crate::edition::Edition;
 use crate::judge::{faults, judge, Around, Named};
-use crate::lengths::{check_inputs, check_room, LINE, PRESS_RECORDS, RECORD};
+use crate::lengths::{check_inputs, check_room};
 use crate::passes::drops::{peak, with_drops};
 use crate::passes::order::order;
 use crate::passes::rebuild::{rebuild, Rebuilt};
@@ -16,8 +17,8 @@ use std::collections::{BTreeMap, BTreeSet};
 /// (resolution records), peak and number of marked lines."
 #[derive(Clone, Copy, Debug, PartialEq, Eq)]
 pub struct Pressed {
-    pub positive: u64,
-    pub negative: u64,
+    pub positive: u128,
+    pub negative: u128,
     pub records: usize,
     pub nodes: usize,
     pub steps: usize,
@@ -40,19 +41,22 @@ pub struct Passes {
 /// "A refused press changes neither output nor marks." Both are written only
 /// once nothing can be refused any more.
 pub fn press(
+    edition: Edition,
     sheet: &[u8],
     rules: &[u8],
     out: &mut [u8],
     marks: &mut [u8],
 ) -> Result<Pressed, Refusal> {
-    check_inputs(sheet.len(), rules.len(), PRESS_RECORDS)?;
-    check_room(sheet.len(), rules.len(), out.len(), marks.len())?;
-    let passes = run_passes(read_proof(sheet, rules)?);
+    check_inputs(edition, sheet.len(), rules.len(), edition.press_records())?;
+    check_room(edition, sheet.len(), rules.len(), out.len(), marks.len())?;
+    let passes = run_passes(read_proof(edition, sheet, rules)?);
     let core = core(&passes.records);
 
-    let bytes: Vec<u8> = passes.records.iter().flat_map(Record::write).collect();
+    let records = passes.records.iter();
+    let bytes: Vec<u8> = records.flat_map(|record| record.write(edition)).collect();
     out[..bytes.len()].copy_from_slice(&bytes);
-    for (line, mark) in marks.iter_mut().enumerate().take(rules.len() / LINE) {
+    let lines = rules.len() / edition.line_bytes();
+    for (line, mark) in marks.iter_mut().enumerate().take(lines) {
         *mark = u8::from(core.contains(&line));
     }
     let conclusion = passes.pressed.conclusion();
@@ -69,10 +73,10 @@ pub fn press(
 
 /// "Then records in order: the first bad record answers". A good sheet has no
 /// drops here, so a record's number is its node's number.
-pub fn read_proof(sheet: &[u8], rules: &[u8]) -> Result<Proof, Refusal> {
+pub fn read_proof(edition: Edition, sheet: &[u8], rules: &[u8]) -> Result<Proof, Refusal> {
     let mut nodes: BTreeMap<usize, Node> = BTreeMap::new();
-    for (record, bytes) in sheet.chunks_exact(RECORD).enumerate() {
-        match judge(bytes, &record_faults(&nodes, bytes, rules)) {
+    for (record, bytes) in sheet.chunks_exact(edition.record_bytes()).enumerate() {
+        match judge(bytes, &record_faults(edition, &nodes, bytes, rules)) {
             Err(number) => return Err(Refusal { number, record }),
             Ok(Record::Node(node)) => nodes.insert(record, node),
             Ok(Record::Drop { .. }) => unreachable!("the press refuses kind 3"),
@@ -83,12 +87,18 @@ pub fn read_proof(sheet: &[u8], rules: &[u8]) -> Result<Proof, Refusal> {
 }
 
 /// All numbers of the table that apply to this record after these nodes.
-pub fn record_faults(earlier: &BTreeMap<usize, Node>, bytes: &[u8], rules: &[u8]) -> BTreeSet<u32> {
+pub fn record_faults(
+    edition: Edition,
+    earlier: &BTreeMap<usize, Node>,
+    bytes: &[u8],
+    rules: &[u8],
+) -> BTreeSet<u32> {
     let named = |number: usize| match earlier.get(&number) {
         Some(node) => Named::Held(node.clause().clone()),
         None => Named::NotEarlier,
     };
     let around = Around {
+        edition,
         rules,
         is_press: true,
         named: &named,

@@ -2,11 +2,15 @@
 //! `pressed.bin` if accepted (else leaves that file alone), and prints one
 //! line."
 
-use crate::lengths::{check_inputs, room_needed, LINE, PRESS_RECORDS, RECORD, RULE_LINES};
+use crate::edition::Edition;
+use crate::lengths::check_inputs;
 use crate::press::{press, Pressed};
 use std::fs::{self, File};
 use std::io::{self, Read};
 use std::path::Path;
+
+/// "The program and the text reader stay with 64 variables".
+const EDITION: Edition = Edition::Narrow;
 
 /// A file's whole length, and as much of it as can matter.
 struct Contents {
@@ -26,8 +30,11 @@ fn answer(dir: &Path) -> Result<String, String> {
     let open = |name: &str, most: usize| {
         read(&dir.join(name), most).map_err(|_| format!("unreadable {name}"))
     };
-    let rules = open("rules.bin", RULE_LINES * LINE)?;
-    let sheet = open("sheet.bin", PRESS_RECORDS * RECORD)?;
+    let rules = open("rules.bin", EDITION.table_lines() * EDITION.line_bytes())?;
+    let sheet = open(
+        "sheet.bin",
+        EDITION.press_records() * EDITION.record_bytes(),
+    )?;
     let (pressed, out) = press_contents(&sheet, &rules)?;
     fs::write(dir.join("pressed.bin"), out).map_err(|_| "unwritable pressed.bin".to_string())?;
     Ok(ok_line(&pressed))
@@ -36,13 +43,15 @@ fn answer(dir: &Path) -> Result<String, String> {
 /// "It judges a file by its whole length, however little of it fits in
 /// memory." Lengths that pass are small enough to have been read in full.
 fn press_contents(sheet: &Contents, rules: &Contents) -> Result<(Pressed, Vec<u8>), String> {
-    check_inputs(sheet.length, rules.length, PRESS_RECORDS)
+    let record = EDITION.record_bytes();
+    let most = EDITION.press_records();
+    check_inputs(EDITION, sheet.length, rules.length, most)
         .map_err(|refusal| refusal.to_string())?;
-    let mut out = vec![0; room_needed(sheet.length / RECORD)];
-    let mut marks = vec![0; rules.length / LINE];
-    let pressed = press(&sheet.start, &rules.start, &mut out, &mut marks)
+    let mut out = vec![0; EDITION.room(sheet.length / record)];
+    let mut marks = vec![0; rules.length / EDITION.line_bytes()];
+    let pressed = press(EDITION, &sheet.start, &rules.start, &mut out, &mut marks)
         .map_err(|refusal| refusal.to_string())?;
-    out.truncate(pressed.records * RECORD);
+    out.truncate(pressed.records * record);
     Ok((pressed, out))
 }
 

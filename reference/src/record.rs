@@ -1,7 +1,8 @@
-//! "Records are 24 bytes, no header, numbers little-endian."
+//! "Records are 24 bytes, no header, numbers little-endian." In the wide edition
+//! they are 40 bytes, and only the sets are longer.
 
 use crate::clause::Clause;
-use crate::lengths::RECORD;
+use crate::edition::{Edition, SETS};
 use crate::proof::Node;
 
 #[derive(Clone, Debug, PartialEq, Eq)]
@@ -11,9 +12,10 @@ pub enum Record {
 }
 
 impl Record {
-    /// "A record reads as one of three kinds, or it doesn't read."
+    /// "A record reads as one of three kinds, or it doesn't read." The bytes are
+    /// as many as a record of the edition has.
     pub fn read(bytes: &[u8]) -> Option<Record> {
-        let clause = || Clause::read(&bytes[8..24]);
+        let clause = || Clause::read(&bytes[SETS..]);
         match bytes[0] {
             1 => Some(Record::Node(Node::Given {
                 line: number(bytes, 6),
@@ -32,13 +34,13 @@ impl Record {
         }
     }
 
-    pub fn write(&self) -> [u8; RECORD] {
-        let mut bytes = [0; RECORD];
+    pub fn write(&self, edition: Edition) -> Vec<u8> {
+        let mut bytes = vec![0; edition.record_bytes()];
         match self {
             Record::Node(Node::Given { line, clause }) => {
                 bytes[0] = 1;
                 put_number(&mut bytes, 6, *line);
-                bytes[8..24].copy_from_slice(&clause.write());
+                bytes[SETS..].copy_from_slice(&clause.write(edition));
             }
             Record::Node(Node::Step {
                 pivot,
@@ -50,7 +52,7 @@ impl Record {
                 bytes[1] = *pivot;
                 put_number(&mut bytes, 2, *left);
                 put_number(&mut bytes, 4, *right);
-                bytes[8..24].copy_from_slice(&clause.write());
+                bytes[SETS..].copy_from_slice(&clause.write(edition));
             }
             Record::Drop { node } => {
                 bytes[0] = 3;
@@ -61,11 +63,11 @@ impl Record {
     }
 
     /// The bytes that the table of document 01 calls zero for this kind.
-    pub fn zero_bytes(&self) -> Vec<usize> {
+    pub fn zero_bytes(&self, edition: Edition) -> Vec<usize> {
         match self {
             Record::Node(Node::Given { .. }) => (1..6).collect(),
             Record::Node(Node::Step { .. }) => vec![6, 7],
-            Record::Drop { .. } => (1..2).chain(4..24).collect(),
+            Record::Drop { .. } => (1..2).chain(4..edition.record_bytes()).collect(),
         }
     }
 }

@@ -1,8 +1,9 @@
 //! The replay.
 
 use crate::clause::Clause;
+use crate::edition::Edition;
 use crate::judge::{faults, judge, Around, Named};
-use crate::lengths::{check_inputs, RECORD, REPLAY_RECORDS};
+use crate::lengths::check_inputs;
 use crate::proof::Node;
 use crate::record::Record;
 use crate::refusal::Refusal;
@@ -14,8 +15,8 @@ use std::collections::BTreeSet;
 pub struct Slot {
     pub used: bool,
     pub node: usize,
-    pub positive: u64,
-    pub negative: u64,
+    pub positive: u128,
+    pub negative: u128,
 }
 
 impl Slot {
@@ -37,15 +38,20 @@ pub struct Tally {
 /// the peak it reached."
 #[derive(Clone, Copy, Debug, PartialEq, Eq)]
 pub struct Replayed {
-    pub positive: u64,
-    pub negative: u64,
+    pub positive: u128,
+    pub negative: u128,
     pub nodes: usize,
     pub steps: usize,
     pub peak: usize,
 }
 
-pub fn replay(sheet: &[u8], rules: &[u8], slots: &mut [Slot]) -> Result<Replayed, Refusal> {
-    replay_watched(sheet, rules, slots, |_, _| ())
+pub fn replay(
+    edition: Edition,
+    sheet: &[u8],
+    rules: &[u8],
+    slots: &mut [Slot],
+) -> Result<Replayed, Refusal> {
+    replay_watched(edition, sheet, rules, slots, |_, _| ())
 }
 
 /// The replay, showing the tally and the slots after every record taken.
@@ -54,14 +60,15 @@ pub fn replay(sheet: &[u8], rules: &[u8], slots: &mut [Slot]) -> Result<Replayed
 /// accepted too, ends with all slots free and zero." "What slots [...] held
 /// before a call never matters", hence the clearing at the start.
 pub fn replay_watched(
+    edition: Edition,
     sheet: &[u8],
     rules: &[u8],
     slots: &mut [Slot],
     watch: impl FnMut(&Tally, &[Slot]),
 ) -> Result<Replayed, Refusal> {
-    check_inputs(sheet.len(), rules.len(), REPLAY_RECORDS)?;
+    check_inputs(edition, sheet.len(), rules.len(), edition.replay_records())?;
     slots.fill(Slot::default());
-    let answer = replay_records(sheet, rules, slots, watch);
+    let answer = replay_records(edition, sheet, rules, slots, watch);
     slots.fill(Slot::default());
     answer
 }
@@ -69,19 +76,21 @@ pub fn replay_watched(
 /// "16: at the end the last node isn't held"; "16 reports the count of
 /// records."
 fn replay_records(
+    edition: Edition,
     sheet: &[u8],
     rules: &[u8],
     slots: &mut [Slot],
     mut watch: impl FnMut(&Tally, &[Slot]),
 ) -> Result<Replayed, Refusal> {
     let mut tally = Tally::default();
-    for (record, bytes) in sheet.chunks_exact(RECORD).enumerate() {
-        step(&mut tally, slots, bytes, rules).map_err(|number| Refusal { number, record })?;
+    for (record, bytes) in sheet.chunks_exact(edition.record_bytes()).enumerate() {
+        step(edition, &mut tally, slots, bytes, rules)
+            .map_err(|number| Refusal { number, record })?;
         watch(&tally, slots);
     }
     let last = tally.next.checked_sub(1).and_then(|node| find(slots, node));
     let Some(at) = last else {
-        let record = sheet.len() / RECORD;
+        let record = sheet.len() / edition.record_bytes();
         return Err(Refusal { number: 16, record });
     };
     Ok(Replayed {
@@ -94,8 +103,14 @@ fn replay_records(
 }
 
 /// One record. "A refused record changes neither tally nor slots".
-pub fn step(tally: &mut Tally, slots: &mut [Slot], bytes: &[u8], rules: &[u8]) -> Result<(), u32> {
-    match judge(bytes, &step_faults(tally, slots, bytes, rules))? {
+pub fn step(
+    edition: Edition,
+    tally: &mut Tally,
+    slots: &mut [Slot],
+    bytes: &[u8],
+    rules: &[u8],
+) -> Result<(), u32> {
+    match judge(bytes, &step_faults(edition, tally, slots, bytes, rules))? {
         Record::Node(node) => put(tally, slots, &node),
         Record::Drop { node } => free(tally, slots, node),
     }
@@ -103,13 +118,20 @@ pub fn step(tally: &mut Tally, slots: &mut [Slot], bytes: &[u8], rules: &[u8]) -
 }
 
 /// All numbers of the table that apply to this record now.
-pub fn step_faults(tally: &Tally, slots: &[Slot], bytes: &[u8], rules: &[u8]) -> BTreeSet<u32> {
+pub fn step_faults(
+    edition: Edition,
+    tally: &Tally,
+    slots: &[Slot],
+    bytes: &[u8],
+    rules: &[u8],
+) -> BTreeSet<u32> {
     let named = |node: usize| match find(slots, node) {
         _ if node >= tally.next => Named::NotEarlier,
         Some(at) => Named::Held(slots[at].clause()),
         None => Named::Dropped,
     };
     let around = Around {
+        edition,
         rules,
         is_press: false,
         named: &named,

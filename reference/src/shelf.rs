@@ -3,13 +3,13 @@
 //! and what the press makes of it in the shelf's words.
 
 use crate::clause::{resolve, Clause, Literal};
-use crate::lengths::{room_needed, LINE, RECORD};
+use crate::edition::Edition;
 use crate::press::press;
 use crate::proof::Node;
 use crate::record::Record;
 
-/// A clause's sets have a bit for each of so many variables.
-const VARIABLES: usize = 64;
+/// A shelf is for the program, which "stay[s] with 64 variables".
+const EDITION: Edition = Edition::Narrow;
 
 #[derive(Default)]
 pub struct Shelf {
@@ -36,8 +36,9 @@ impl Shelf {
             [word, ..] if word.starts_with('#') => Ok(()),
             ["variables", ref names @ ..] => {
                 self.variables.extend(names.iter().map(|n| n.to_string()));
-                let few = self.variables.len() <= VARIABLES;
-                few.then_some(()).ok_or(format!("over {VARIABLES} words"))
+                let most = usize::from(EDITION.variables());
+                let few = self.variables.len() <= most;
+                few.then_some(()).ok_or(format!("over {most} words"))
             }
             ["rule", name, ref literals @ ..] => {
                 let clause: Result<Clause, _> = literals.iter().map(|l| self.literal(l)).collect();
@@ -81,21 +82,22 @@ impl Shelf {
     }
 
     pub fn rules(&self) -> Vec<u8> {
-        self.rules.iter().flat_map(|(_, c)| c.write()).collect()
+        let line = |(_, clause): &(String, Clause)| clause.write(EDITION);
+        self.rules.iter().flat_map(line).collect()
     }
 
     pub fn sheet(&self) -> Vec<u8> {
-        let record = |(_, node): &(String, Node)| Record::Node(node.clone()).write();
+        let record = |(_, node): &(String, Node)| Record::Node(node.clone()).write(EDITION);
         self.nodes.iter().flat_map(record).collect()
     }
 
     /// The pressed sheet's bytes, if the press accepts.
     pub fn pressed(&self) -> Option<Vec<u8>> {
         let (sheet, rules) = (self.sheet(), self.rules());
-        let mut out = vec![0; room_needed(self.nodes.len().max(1))];
-        let mut marks = vec![0; rules.len() / LINE];
-        let pressed = press(&sheet, &rules, &mut out, &mut marks).ok()?;
-        out.truncate(pressed.records * RECORD);
+        let mut out = vec![0; EDITION.room(self.nodes.len().max(1))];
+        let mut marks = vec![0; self.rules.len()];
+        let pressed = press(EDITION, &sheet, &rules, &mut out, &mut marks).ok()?;
+        out.truncate(pressed.records * EDITION.record_bytes());
         Some(out)
     }
 
@@ -103,7 +105,7 @@ impl Shelf {
     pub fn listing(&self, sheet: &[u8]) -> String {
         let mut text = String::new();
         let mut next = 0;
-        for bytes in sheet.chunks(RECORD) {
+        for bytes in sheet.chunks(EDITION.record_bytes()) {
             match Record::read(bytes).expect("a sheet that was made here") {
                 Record::Drop { node } => text += &format!("    drop {node}\n"),
                 Record::Node(node) => {

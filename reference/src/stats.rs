@@ -3,9 +3,9 @@
 
 use crate::cases::{draw, Case, Size};
 use crate::clause::Clause;
+use crate::edition::Edition;
 use crate::events::{pass_events, Event};
 use crate::judge::TRIED;
-use crate::lengths::{room_needed, LINE, PRESS_RECORDS, RECORD, REPLAY_RECORDS, RULE_LINES};
 use crate::press::{press, read_proof, record_faults, run_passes};
 use crate::record::Record;
 use crate::replay::{replay_watched, step, step_faults, Slot, Tally};
@@ -28,44 +28,60 @@ pub fn gather(seed: u64, count: u64, size: Size) -> Stats {
     for index in 0..count {
         match draw(seed, index, size) {
             Case::Press {
+                edition,
                 sheet,
                 rules,
                 room,
                 marks,
-            } => stats.count_press(&sheet, &rules, room, marks),
+            } => stats.count_press(edition, &sheet, &rules, room, marks),
             Case::Replay {
+                edition,
                 sheet,
                 rules,
                 slots,
-            } => stats.count_replay(&sheet, &rules, slots),
+            } => stats.count_replay(edition, &sheet, &rules, slots),
         }
     }
     stats
 }
 
 impl Stats {
-    fn count_press(&mut self, sheet: &[u8], rules: &[u8], room: usize, marks: usize) {
-        let records = sheet.len() / RECORD;
+    fn count_press(
+        &mut self,
+        edition: Edition,
+        sheet: &[u8],
+        rules: &[u8],
+        room: usize,
+        marks: usize,
+    ) {
+        let records = sheet.len() / edition.record_bytes();
+        let lines = rules.len() / edition.line_bytes();
         let (mut out, mut marks) = (vec![0; room], vec![0; marks]);
-        match press(sheet, rules, &mut out, &mut marks) {
+        match press(edition, sheet, rules, &mut out, &mut marks) {
             Err(refusal) => {
                 *self.press.entry(refusal.number).or_default() += 1;
                 if refusal.number > 5 {
-                    self.count_together(press_faults_at(sheet, rules, refusal.record));
+                    self.count_together(press_faults_at(edition, sheet, rules, refusal.record));
                 }
             }
             Ok(_) => {
                 *self.press.entry(ACCEPTED).or_default() += 1;
-                let proof = read_proof(sheet, rules).expect("it was accepted");
+                let proof = read_proof(edition, sheet, rules).expect("it was accepted");
                 self.count_events(&pass_events(&run_passes(proof)));
                 self.count_events(&[
-                    ("press: most records accepted", records == PRESS_RECORDS),
-                    ("press: room exactly 48N-24", room == room_needed(records)),
-                    ("press: most rule lines", rules.len() / LINE == RULE_LINES),
+                    (
+                        "press: most records accepted",
+                        records == edition.press_records(),
+                    ),
+                    (
+                        "press: room exactly as needed",
+                        room == edition.room(records),
+                    ),
+                    ("press: most rule lines", lines == edition.table_lines()),
                     (
                         "press: an unused line holds v both ways",
                         rules
-                            .chunks_exact(LINE)
+                            .chunks_exact(edition.line_bytes())
                             .any(|line| Clause::read(line).holds_both_ways()),
                     ),
                 ]);
@@ -73,15 +89,22 @@ impl Stats {
         }
     }
 
-    fn count_replay(&mut self, sheet: &[u8], rules: &[u8], slots: usize) {
-        let records = sheet.len() / RECORD;
+    fn count_replay(&mut self, edition: Edition, sheet: &[u8], rules: &[u8], slots: usize) {
+        let records = sheet.len() / edition.record_bytes();
         let mut row = vec![Slot::default(); slots];
         let mut seen = Seen::default();
-        match replay_watched(sheet, rules, &mut row, |tally, row| seen.note(tally, row)) {
+        let watch = |tally: &Tally, row: &[Slot]| seen.note(tally, row);
+        match replay_watched(edition, sheet, rules, &mut row, watch) {
             Err(refusal) => {
                 *self.replay.entry(refusal.number).or_default() += 1;
                 if TRIED.contains(&refusal.number) {
-                    self.count_together(replay_faults_at(sheet, rules, slots, refusal.record));
+                    self.count_together(replay_faults_at(
+                        edition,
+                        sheet,
+                        rules,
+                        slots,
+                        refusal.record,
+                    ));
                 }
             }
             Ok(_) => {
@@ -90,7 +113,10 @@ impl Stats {
                     ("replay: accepted with drops", seen.dropped),
                     ("replay: a slot used again", seen.reused),
                     ("replay: slots exactly peak", seen.peak == slots),
-                    ("replay: most records accepted", records == REPLAY_RECORDS),
+                    (
+                        "replay: most records accepted",
+                        records == edition.replay_records(),
+                    ),
                 ]);
             }
         }
@@ -164,26 +190,32 @@ impl Seen {
 }
 
 /// All numbers that apply to the record a press stopped at.
-fn press_faults_at(sheet: &[u8], rules: &[u8], record: usize) -> BTreeSet<u32> {
+fn press_faults_at(edition: Edition, sheet: &[u8], rules: &[u8], record: usize) -> BTreeSet<u32> {
     let mut earlier = BTreeMap::new();
-    let mut records = sheet.chunks_exact(RECORD);
+    let mut records = sheet.chunks_exact(edition.record_bytes());
     for (number, bytes) in records.by_ref().take(record).enumerate() {
         if let Some(Record::Node(node)) = Record::read(bytes) {
             earlier.insert(number, node);
         }
     }
     let bad = records.next().expect("the bad record");
-    record_faults(&earlier, bad, rules)
+    record_faults(edition, &earlier, bad, rules)
 }
 
 /// All numbers that apply to the record a replay stopped at.
-fn replay_faults_at(sheet: &[u8], rules: &[u8], slots: usize, record: usize) -> BTreeSet<u32> {
+fn replay_faults_at(
+    edition: Edition,
+    sheet: &[u8],
+    rules: &[u8],
+    slots: usize,
+    record: usize,
+) -> BTreeSet<u32> {
     let mut row = vec![Slot::default(); slots];
     let mut tally = Tally::default();
-    let mut records = sheet.chunks_exact(RECORD);
+    let mut records = sheet.chunks_exact(edition.record_bytes());
     for bytes in records.by_ref().take(record) {
-        step(&mut tally, &mut row, bytes, rules).expect("earlier records are good");
+        step(edition, &mut tally, &mut row, bytes, rules).expect("earlier records are good");
     }
     let bad = records.next().expect("the bad record");
-    step_faults(&tally, &row, bad, rules)
+    step_faults(edition, &tally, &row, bad, rules)
 }

@@ -14,19 +14,18 @@
 //! refused record there is none.
 
 use crate::cases::{draw, Case, Size};
-use crate::lengths::{
-    check_inputs, room_needed, LINE, PRESS_RECORDS, RECORD, REPLAY_RECORDS, RULE_LINES,
-};
+use crate::edition::Edition;
+use crate::lengths::check_inputs;
 use crate::press::press;
 use crate::replay::{replay, step, Slot, Tally};
 use crate::text::{hex, pressed_line, refused, replayed_line, trace_line};
 
 /// The most that a program that runs a stream has memory for: a little more
 /// than the limits allow.
-pub const SHEET: usize = (REPLAY_RECORDS + 2) * RECORD;
-pub const RULES: usize = (RULE_LINES + 1) * LINE;
-pub const ROOM: usize = room_needed(PRESS_RECORDS) + 60;
-pub const MARKS: usize = RULE_LINES + 60;
+pub const SHEET: usize = 49_176;
+pub const RULES: usize = 16_400;
+pub const ROOM: usize = 49_188;
+pub const MARKS: usize = 1_084;
 
 /// What output and marks hold before a press.
 const OLD: u8 = 0xA5;
@@ -77,11 +76,13 @@ fn parts(case: &Case) -> (&[u8], &[u8], usize, usize) {
             rules,
             room,
             marks,
+            ..
         } => (sheet, rules, *room, *marks),
         Case::Replay {
             sheet,
             rules,
             slots,
+            ..
         } => (sheet, rules, *slots, 0),
     }
 }
@@ -104,27 +105,31 @@ fn bytes(entry: &Entry) -> Vec<u8> {
 
 fn printed(number: usize, entry: &Entry) -> String {
     let (sheet, rules, room, marks) = parts(&entry.case);
-    let (word, answer) = match &entry.case {
-        Case::Press { .. } => ("press", pressed(sheet, rules, room, marks)),
-        Case::Replay { .. } => ("replay", replayed(sheet, rules, room, entry.shown)),
+    let (word, answer) = match entry.case {
+        Case::Press { edition, .. } => ("press", pressed(edition, sheet, rules, room, marks)),
+        Case::Replay { edition, .. } => {
+            let answer = replayed(edition, sheet, rules, room, entry.shown);
+            ("replay", answer)
+        }
     };
     let lengths = format!("{} {} {room} {marks}", sheet.len(), rules.len());
     format!("case {number} {word} {lengths}\n{answer}")
 }
 
-fn pressed(sheet: &[u8], rules: &[u8], room: usize, marks: usize) -> String {
+fn pressed(edition: Edition, sheet: &[u8], rules: &[u8], room: usize, marks: usize) -> String {
     let mut out = vec![OLD; room];
     let mut marks = vec![OLD; marks];
-    let (answer, records, lines) = match press(sheet, rules, &mut out, &mut marks) {
+    let (answer, records, lines) = match press(edition, sheet, rules, &mut out, &mut marks) {
         Err(refusal) => (refused(&refusal), 0, 0),
         Ok(pressed) => {
-            let (records, lines) = (pressed.records * RECORD, rules.len() / LINE);
+            let records = pressed.records * edition.record_bytes();
+            let lines = rules.len() / edition.line_bytes();
             let memory = format!(
                 "out {}\nmarks {}\n",
                 hex(&out[..records]),
                 hex(&marks[..lines])
             );
-            (pressed_line(&pressed) + &memory, records, lines)
+            (pressed_line(edition, &pressed) + &memory, records, lines)
         }
     };
     let mut beyond = out[records..].iter().chain(&marks[lines..]);
@@ -136,30 +141,31 @@ fn pressed(sheet: &[u8], rules: &[u8], room: usize, marks: usize) -> String {
     format!("{answer}{word}\n")
 }
 
-fn replayed(sheet: &[u8], rules: &[u8], slots: usize, shown: bool) -> String {
+fn replayed(edition: Edition, sheet: &[u8], rules: &[u8], slots: usize, shown: bool) -> String {
     let mut row = vec![Slot::default(); slots];
-    let answer = match replay(sheet, rules, &mut row) {
+    let answer = match replay(edition, sheet, rules, &mut row) {
         Err(refusal) => refused(&refusal),
-        Ok(replayed) => replayed_line(&replayed),
+        Ok(replayed) => replayed_line(edition, &replayed),
     };
-    if shown && check_inputs(sheet.len(), rules.len(), REPLAY_RECORDS).is_ok() {
-        return answer + &records(sheet, rules, slots);
+    let most = edition.replay_records();
+    if shown && check_inputs(edition, sheet.len(), rules.len(), most).is_ok() {
+        return answer + &records(edition, sheet, rules, slots);
     }
     answer
 }
 
 /// A line for each record, up to one that is refused.
-fn records(sheet: &[u8], rules: &[u8], slots: usize) -> String {
+fn records(edition: Edition, sheet: &[u8], rules: &[u8], slots: usize) -> String {
     let mut row = vec![Slot::default(); slots];
     let mut tally = Tally::default();
     let mut lines = String::new();
-    for (record, bytes) in sheet.chunks_exact(RECORD).enumerate() {
-        let answer = step(&mut tally, &mut row, bytes, rules);
+    for (record, bytes) in sheet.chunks_exact(edition.record_bytes()).enumerate() {
+        let answer = step(edition, &mut tally, &mut row, bytes, rules);
         let word = match answer {
             Ok(()) => "taken".to_string(),
             Err(number) => format!("refused {number} {record}"),
         };
-        lines += &format!("{word} {}", trace_line(&tally, &row));
+        lines += &format!("{word} {}", trace_line(edition, &tally, &row));
         if answer.is_err() {
             break;
         }

@@ -3,7 +3,7 @@
 //! replay of this program make of them.
 
 use crate::clause::Clause;
-use crate::lengths::{room_needed, LINE, RECORD};
+use crate::edition::Edition;
 use crate::press::press;
 use crate::proof::Node;
 use crate::record::Record;
@@ -12,6 +12,9 @@ use crate::replay::{replay, Slot};
 use crate::sheets::starred::*;
 use crate::sheets::telling::*;
 use crate::sheets::{clause, sheet, Worked};
+
+/// The tables are of the narrow edition.
+const EDITION: Edition = Edition::Narrow;
 
 const STARRED: &str = r#"-- "Starred sheets are one table under a single proved statement." Made by the second program: `reference tables`.
 use Prim.Native.Nat.{ℕ, _-_, _*_, _^_}
@@ -61,7 +64,7 @@ pub fn starred() -> String {
         let out = worked.pressed();
         page += &match (worked.name, out) {
             // as document 01 prints them, eight bytes, then eight, then eight
-            ("pair", Some(out)) => bytes_of("pairPressed", &sheet(&out)),
+            ("pair", Some(out)) => bytes_of("pairPressed", &sheet(EDITION, &out)),
             (name, Some(out)) => records_of("", &format!("{name}Pressed"), &out),
             (_, None) => String::new(),
         };
@@ -233,7 +236,7 @@ fn bytes_of(name: &str, bytes: &[u8]) -> String {
         false => format!("({})", list(bytes)),
     };
     let record = |bytes: &[u8]| bytes.chunks(8).map(group).collect::<Vec<_>>().join(" ++ ");
-    let lines: Vec<String> = bytes.chunks(RECORD).map(record).collect();
+    let lines: Vec<String> = bytes.chunks(EDITION.record_bytes()).map(record).collect();
     define(
         "",
         name,
@@ -254,9 +257,9 @@ const OLD: u8 = 170;
 /// The press with as much room and marks as it needs, and what it then says.
 fn pressed(worked: &Worked) -> (Result<Vec<usize>, Refusal>, Vec<u8>) {
     let (sheet, rules) = worked.bytes();
-    let mut out = vec![OLD; room_needed(sheet.len() / RECORD)];
-    let mut marks = vec![OLD; rules.len() / LINE];
-    let said = press(&sheet, &rules, &mut out, &mut marks).map(|p| {
+    let mut out = vec![OLD; EDITION.room(worked.records.len())];
+    let mut marks = vec![OLD; worked.rules.len()];
+    let said = press(EDITION, &sheet, &rules, &mut out, &mut marks).map(|p| {
         let sets = [p.positive as usize, p.negative as usize];
         [&sets[..], &[p.records, p.nodes, p.steps, p.peak, p.marked]].concat()
     });
@@ -288,7 +291,8 @@ fn refuses(worked: &Worked, rules: &str) -> String {
 /// A press that is refused, with this room and these marks.
 fn presses(worked: &Worked, rules: &str, room: usize, marks: usize) -> String {
     let (sheet, table) = worked.bytes();
-    let refused = press(&sheet, &table, &mut vec![OLD; room], &mut vec![OLD; marks]);
+    let (mut out, mut marked) = (vec![OLD; room], vec![OLD; marks]);
+    let refused = press(EDITION, &sheet, &table, &mut out, &mut marked);
     let why = refused.expect_err("the press refuses it");
     let said = list(&[why.number as usize, why.record]);
     format!(
@@ -306,14 +310,14 @@ fn replays(worked: &Worked, rules: &str, slots: usize) -> String {
 }
 
 fn replays_pressed(worked: &Worked, slots: usize) -> String {
-    let out = sheet(&worked.pressed().expect("the press takes it"));
+    let out = sheet(EDITION, &worked.pressed().expect("the press takes it"));
     let said = replayed(&out, &worked.table(), slots);
     let name = worked.name;
     format!("replayed {name}Pressed (ruleTable {name}Rules) {slots} ({said})")
 }
 
 fn replayed(sheet: &[u8], rules: &[u8], slots: usize) -> String {
-    match replay(sheet, rules, &mut vec![Slot::default(); slots]) {
+    match replay(EDITION, sheet, rules, &mut vec![Slot::default(); slots]) {
         Ok(r) => list(&[
             r.positive as usize,
             r.negative as usize,
@@ -329,7 +333,10 @@ fn bytes_term(worked: &Worked) -> String {
     let bytes = format!("(sheetBytes narrow {})", worked.name);
     match worked.spoilt {
         None => bytes,
-        Some((at, byte)) => format!("(set {bytes} {at} {byte})"),
+        Some((record, at, byte)) => {
+            let at = record * EDITION.record_bytes() + at;
+            format!("(set {bytes} {at} {byte})")
+        }
     }
 }
 
@@ -345,7 +352,7 @@ fn lines_of(terms: &[String]) -> String {
 }
 
 fn literals(clause: &Clause) -> String {
-    let set = |word: u64| match word {
+    let set = |word: u128| match word {
         256.. if word.is_power_of_two() => format!("(2 ^ {})", word.ilog2()),
         _ => word.to_string(),
     };

@@ -2,8 +2,8 @@
 //!
 //! Each case is a block of lines that ends with an empty line. Words are
 //! separated by single spaces. Byte strings are lower-case hex, `-` if empty;
-//! sets are numbers of 16 hex digits whose bit v is variable v; all else is
-//! decimal.
+//! sets are numbers whose bit v is variable v, of 16 hex digits, or 32 in the
+//! wide edition; all else is decimal.
 //!
 //! ```text
 //! press <sheet> <rules> <bytes of room> <bytes of marks>
@@ -22,7 +22,7 @@
 //! `-` if free and `<node>:<positive>:<negative>` if in use.
 
 use crate::cases::Case;
-use crate::lengths::{LINE, RECORD};
+use crate::edition::Edition;
 use crate::press::{press, Pressed};
 use crate::refusal::Refusal;
 use crate::replay::{replay_watched, Replayed, Slot, Tally};
@@ -31,48 +31,56 @@ use crate::replay::{replay_watched, Replayed, Slot, Tally};
 pub fn block(case: &Case, with_trace: bool) -> String {
     match case {
         Case::Press {
+            edition,
             sheet,
             rules,
             room,
             marks,
-        } => press_block(sheet, rules, *room, *marks),
+        } => press_block(*edition, sheet, rules, *room, *marks),
         Case::Replay {
+            edition,
             sheet,
             rules,
             slots,
-        } => replay_block(sheet, rules, *slots, with_trace),
+        } => replay_block(*edition, sheet, rules, *slots, with_trace),
     }
 }
 
-fn press_block(sheet: &[u8], rules: &[u8], room: usize, marks: usize) -> String {
+fn press_block(edition: Edition, sheet: &[u8], rules: &[u8], room: usize, marks: usize) -> String {
     let question = format!("press {} {} {room} {marks}\n", hex(sheet), hex(rules));
     let mut out = vec![0; room];
     let mut marks = vec![0; marks];
     question
-        + &match press(sheet, rules, &mut out, &mut marks) {
+        + &match press(edition, sheet, rules, &mut out, &mut marks) {
             Err(refusal) => refused(&refusal),
             Ok(pressed) => {
-                out.truncate(pressed.records * RECORD);
-                marks.truncate(rules.len() / LINE);
-                let ok = pressed_line(&pressed);
+                out.truncate(pressed.records * edition.record_bytes());
+                marks.truncate(rules.len() / edition.line_bytes());
+                let ok = pressed_line(edition, &pressed);
                 format!("{ok}out {}\nmarks {}\n", hex(&out), hex(&marks))
             }
         }
 }
 
-fn replay_block(sheet: &[u8], rules: &[u8], slots: usize, with_trace: bool) -> String {
+fn replay_block(
+    edition: Edition,
+    sheet: &[u8],
+    rules: &[u8],
+    slots: usize,
+    with_trace: bool,
+) -> String {
     let question = format!("replay {} {} {slots}\n", hex(sheet), hex(rules));
     let mut trace = String::new();
     let mut slots = vec![Slot::default(); slots];
-    let answer = replay_watched(sheet, rules, &mut slots, |tally, slots| {
+    let answer = replay_watched(edition, sheet, rules, &mut slots, |tally, slots| {
         if with_trace {
-            trace += &trace_line(tally, slots);
+            trace += &trace_line(edition, tally, slots);
         }
     });
     question
         + &match answer {
             Err(refusal) => refused(&refusal),
-            Ok(replayed) => replayed_line(&replayed),
+            Ok(replayed) => replayed_line(edition, &replayed),
         }
         + &trace
 }
@@ -81,11 +89,17 @@ pub(crate) fn refused(refusal: &Refusal) -> String {
     format!("= refused {} {}\n", refusal.number, refusal.record)
 }
 
-pub(crate) fn pressed_line(pressed: &Pressed) -> String {
+/// A digit for each four of the edition's variables.
+fn set(edition: Edition, number: u128) -> String {
+    let digits = usize::from(edition.variables()) / 4;
+    format!("{number:0digits$x}")
+}
+
+pub(crate) fn pressed_line(edition: Edition, pressed: &Pressed) -> String {
     format!(
-        "= ok {:016x} {:016x} records {} nodes {} steps {} peak {} marked {}\n",
-        pressed.positive,
-        pressed.negative,
+        "= ok {} {} records {} nodes {} steps {} peak {} marked {}\n",
+        set(edition, pressed.positive),
+        set(edition, pressed.negative),
         pressed.records,
         pressed.nodes,
         pressed.steps,
@@ -94,15 +108,19 @@ pub(crate) fn pressed_line(pressed: &Pressed) -> String {
     )
 }
 
-pub(crate) fn replayed_line(replayed: &Replayed) -> String {
+pub(crate) fn replayed_line(edition: Edition, replayed: &Replayed) -> String {
     format!(
-        "= ok {:016x} {:016x} nodes {} steps {} peak {}\n",
-        replayed.positive, replayed.negative, replayed.nodes, replayed.steps, replayed.peak
+        "= ok {} {} nodes {} steps {} peak {}\n",
+        set(edition, replayed.positive),
+        set(edition, replayed.negative),
+        replayed.nodes,
+        replayed.steps,
+        replayed.peak
     )
 }
 
-pub(crate) fn trace_line(tally: &Tally, slots: &[Slot]) -> String {
-    let slots: String = slots.iter().map(slot_word).collect();
+pub(crate) fn trace_line(edition: Edition, tally: &Tally, slots: &[Slot]) -> String {
+    let slots: String = slots.iter().map(|slot| slot_word(edition, slot)).collect();
     let Tally {
         next,
         held,
@@ -112,12 +130,10 @@ pub(crate) fn trace_line(tally: &Tally, slots: &[Slot]) -> String {
     format!("tally {next} {held} {peak} {steps} slots{slots}\n")
 }
 
-fn slot_word(slot: &Slot) -> String {
+fn slot_word(edition: Edition, slot: &Slot) -> String {
     if slot.used {
-        format!(
-            " {}:{:016x}:{:016x}",
-            slot.node, slot.positive, slot.negative
-        )
+        let [positive, negative] = [slot.positive, slot.negative].map(|s| set(edition, s));
+        format!(" {}:{positive}:{negative}", slot.node)
     } else {
         " -".to_string()
     }

@@ -5,7 +5,6 @@ mod common;
 use common::*;
 use reference::cases::{draw, Case, Size};
 use reference::clause::Clause;
-use reference::lengths::RECORD;
 use reference::press::{press, read_proof};
 use reference::replay::Replayed;
 use reference::stats::gather;
@@ -13,13 +12,13 @@ use reference::stats::gather;
 const CASES: u64 = 1500;
 
 /// What an accepted press promises, checked with the replay.
-fn check_press(sheet: &[u8], rules: &[u8], room: usize, marks: usize) {
+fn check_press(edition: Edition, sheet: &[u8], rules: &[u8], room: usize, marks: usize) {
     let (mut out, mut marks) = (vec![OLD; room], vec![OLD; marks]);
-    let Ok(pressed) = press(sheet, rules, &mut out, &mut marks) else {
+    let Ok(pressed) = press(edition, sheet, rules, &mut out, &mut marks) else {
         assert!(out.iter().chain(&marks).all(|&byte| byte == OLD));
         return;
     };
-    let done = press_ok(sheet, rules);
+    let done = press_ok_in(edition, sheet, rules);
     assert_eq!(done.pressed, pressed);
     let expected = Replayed {
         positive: pressed.positive,
@@ -28,20 +27,25 @@ fn check_press(sheet: &[u8], rules: &[u8], room: usize, marks: usize) {
         steps: pressed.steps,
         peak: pressed.peak,
     };
-    assert_eq!(replay_answer(&done.out, rules, pressed.peak), Ok(expected));
-    let short = replay_answer(&done.out, rules, pressed.peak - 1);
+    let replayed = |slots| replay_traced_in(edition, &done.out, rules, slots).0;
+    assert_eq!(replayed(pressed.peak), Ok(expected));
+    let short = replayed(pressed.peak - 1);
     assert!(matches!(short, Err((15, _))));
 
-    let input = read_proof(sheet, rules).unwrap();
+    let input = read_proof(edition, sheet, rules).unwrap();
     let conclusion = Clause::from_numbers(pressed.positive, pressed.negative);
     assert!(conclusion.is_within(input.conclusion()));
     assert!(pressed.steps <= input.steps());
     assert_eq!(pressed.records, 2 * pressed.nodes - 1);
-    check_every_other_node_is_dropped_once(&done.out, pressed.nodes);
+    let records = done.out.chunks_exact(edition.record_bytes());
+    check_every_other_node_is_dropped_once(records, pressed.nodes);
 }
 
-fn check_every_other_node_is_dropped_once(out: &[u8], nodes: usize) {
-    let drops = out.chunks_exact(RECORD).filter(|bytes| bytes[0] == 3);
+fn check_every_other_node_is_dropped_once<'a>(
+    records: impl Iterator<Item = &'a [u8]>,
+    nodes: usize,
+) {
+    let drops = records.filter(|bytes| bytes[0] == 3);
     let mut dropped: Vec<u16> = drops
         .map(|bytes| u16::from_le_bytes([bytes[2], bytes[3]]))
         .collect();
@@ -50,8 +54,8 @@ fn check_every_other_node_is_dropped_once(out: &[u8], nodes: usize) {
 }
 
 /// What any replay promises of its tally and slots, record by record.
-fn check_replay(sheet: &[u8], rules: &[u8], slots: usize) {
-    let (answer, trace) = replay_traced(sheet, rules, slots);
+fn check_replay(edition: Edition, sheet: &[u8], rules: &[u8], slots: usize) {
+    let (answer, trace) = replay_traced_in(edition, sheet, rules, slots);
     let mut peak = 0;
     for (tally, row) in &trace {
         let held = row.iter().filter(|slot| slot.used).count();
@@ -63,7 +67,7 @@ fn check_replay(sheet: &[u8], rules: &[u8], slots: usize) {
         Err((1..=4, record)) => assert_eq!((record, trace.len()), (0, 0)),
         Err((_, record)) => assert_eq!(record, trace.len()),
         Ok(replayed) => {
-            let (last, row) = &trace[sheet.len() / RECORD - 1];
+            let (last, row) = &trace[sheet.len() / edition.record_bytes() - 1];
             let sink = row
                 .iter()
                 .find(|slot| slot.used && slot.node + 1 == last.next);
@@ -84,16 +88,18 @@ fn check_cases(seed: u64, size: Size) {
     for index in 0..CASES {
         match draw(seed, index, size) {
             Case::Press {
+                edition,
                 sheet,
                 rules,
                 room,
                 marks,
-            } => check_press(&sheet, &rules, room, marks),
+            } => check_press(edition, &sheet, &rules, room, marks),
             Case::Replay {
+                edition,
                 sheet,
                 rules,
                 slots,
-            } => check_replay(&sheet, &rules, slots),
+            } => check_replay(edition, &sheet, &rules, slots),
         }
     }
 }
@@ -116,8 +122,9 @@ fn every_refusal_number_occurs() {
 #[test]
 fn small_cases_are_small() {
     for index in 0..CASES {
-        let (Case::Press { sheet, .. } | Case::Replay { sheet, .. }) = draw(14, index, Size::Small);
-        assert!(sheet.len() < 21 * RECORD);
+        let (Case::Press { edition, sheet, .. } | Case::Replay { edition, sheet, .. }) =
+            draw(14, index, Size::Small);
+        assert!(sheet.len() < 21 * edition.record_bytes());
     }
 }
 

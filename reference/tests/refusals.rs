@@ -207,7 +207,13 @@ fn a_refused_record_changes_neither_tally_nor_slots() {
         (step(0, 0, 0, ""), 11),
     ];
     for (record, number) in refused {
-        let answer = reference::replay::step(&mut running, &mut row, &record.write(), &rules);
+        let answer = reference::replay::step(
+            Narrow,
+            &mut running,
+            &mut row,
+            &record.write(Narrow),
+            &rules,
+        );
         assert_eq!(answer, Err(number));
         assert_eq!((running, row), (tally(1, 1, 1, 0), [slot(0, "+0"), FREE]));
     }

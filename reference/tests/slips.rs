@@ -7,12 +7,12 @@ use reference::clause::Literal;
 use reference::passes::order::order;
 use reference::passes::rebuild::Why;
 use reference::passes::recycle::Edge;
-use reference::press::{read_proof, run_passes, Passes};
+use reference::press::Passes;
 use reference::proof::{Node, Proof};
 use reference::record::Record;
 
 fn passes_of(worked: &Worked) -> Passes {
-    run_passes(read_proof(&worked.sheet(), &worked.table()).unwrap())
+    passes(&worked.sheet(), &worked.table())
 }
 
 #[test]
@@ -20,7 +20,7 @@ fn the_kept_side_of_a_cut() {
     let (sheet, rules) = irregular().bytes();
     let done = press_ok(&sheet, &rules);
     assert_eq!((done.pressed.positive, done.pressed.negative), (0, 0));
-    let passes = run_passes(read_proof(&sheet, &rules).unwrap());
+    let passes = passes(&sheet, &rules);
     assert_eq!(passes.visits[&2].cut, Some(Edge::Right));
     assert_eq!(passes.visits[&2].s, clause("+0 +1 +2"));
     assert_eq!(passes.rebuilt.stand_ins[&2], 0);
@@ -51,7 +51,7 @@ fn a_left_edge_cut() {
 #[test]
 fn s_is_not_carried_into_a_node_used_twice() {
     let (input, table) = shared_reset().bytes();
-    let passes = run_passes(read_proof(&input, &table).unwrap());
+    let passes = passes(&input, &table);
     assert!(passes.visits.values().all(|visit| visit.cut.is_none()));
     assert!(passes.visits[&2].s.is_empty());
     let done = press_ok(&input, &table);
@@ -62,7 +62,7 @@ fn s_is_not_carried_into_a_node_used_twice() {
 #[test]
 fn no_step_is_rebuilt_without_its_pivot() {
     let (sheet, rules) = irregular().bytes();
-    let passes = run_passes(read_proof(&sheet, &rules).unwrap());
+    let passes = passes(&sheet, &rules);
     assert_eq!(passes.rebuilt.why[&8], Why::LeftLacksPivot);
     assert_eq!(passes.rebuilt.stand_ins[&8], 6);
 }

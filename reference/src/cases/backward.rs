@@ -3,17 +3,19 @@
 use crate::cases::draft::{nodes_for, Draft};
 use crate::cases::shapes::clause;
 use crate::clause::{Clause, Literal};
+use crate::edition::Edition;
 use crate::rng::Rng;
 
 /// Grows from the conclusion upwards: trees, irregular when variables are few,
 /// with some nodes shared when the same clause is wanted again.
-pub fn backward(rng: &mut Rng, variables: &[u8], size: usize) -> Draft {
+pub fn backward(rng: &mut Rng, edition: Edition, variables: &[u8], size: usize) -> Draft {
     let goal_width = rng.pick(&[0, 0, 1, 3]);
     let mut goal = clause(rng, variables, goal_width);
     if size < nodes_for(&goal) {
         goal = goal.one_way();
     }
     let mut grower = Grower {
+        edition,
         draft: Draft::default(),
         variables,
         share_percent: rng.pick(&[0, 10, 60]),
@@ -24,6 +26,7 @@ pub fn backward(rng: &mut Rng, variables: &[u8], size: usize) -> Draft {
 }
 
 struct Grower<'a> {
+    edition: Edition,
     draft: Draft,
     variables: &'a [u8],
     share_percent: usize,
@@ -41,7 +44,7 @@ impl Grower<'_> {
             }
         }
         let Some(plan) = self.plan(rng, &goal, budget) else {
-            return self.draft.add(rng, &goal, budget);
+            return self.draft.add(rng, self.edition, &goal, budget);
         };
         let left = self.prove(rng, plan.left, plan.left_budget);
         let right = self.prove(rng, plan.right, budget - 1 - plan.left_budget);

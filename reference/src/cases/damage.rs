@@ -1,56 +1,61 @@
 //! Damage to the bytes of a sheet or a rule table.
 
-use crate::lengths::{LINE, PRESS_RECORDS, RECORD, RULE_LINES};
+use crate::edition::{Edition, SETS};
 use crate::record::{number, put_number, Record};
 use crate::rng::Rng;
 
 /// One to three faults in records drawn at random, now and then all in the
 /// same record.
-pub fn spoil_records(rng: &mut Rng, sheet: &mut [u8], rules: &[u8]) {
-    let count = sheet.len() / RECORD;
+pub fn spoil_records(rng: &mut Rng, edition: Edition, sheet: &mut [u8], rules: &[u8]) {
+    let size = edition.record_bytes();
+    let count = sheet.len() / size;
     let same = rng.chance(30).then(|| rng.below(count));
     for _ in 0..rng.between(1, 3) {
         let record = same.unwrap_or_else(|| rng.below(count));
-        let bytes = &mut sheet[record * RECORD..(record + 1) * RECORD];
-        spoil_record(rng, bytes, record, rules.len() / LINE);
+        let bytes = &mut sheet[record * size..(record + 1) * size];
+        let lines = rules.len() / edition.line_bytes();
+        spoil_record(rng, edition, bytes, record, lines);
     }
 }
 
 /// One fault, fitting the kind that the record has.
-fn spoil_record(rng: &mut Rng, bytes: &mut [u8], record: usize, lines: usize) {
+fn spoil_record(rng: &mut Rng, edition: Edition, bytes: &mut [u8], record: usize, lines: usize) {
     match (rng.below(10), bytes[0]) {
         (0, _) => bytes[0] = rng.pick(&[0, 1, 2, 3, 4, 0x82, 255]),
-        (1, _) => bytes[rng.below(RECORD)] = rng.byte(),
-        (2, _) => stray_byte(rng, bytes),
-        (_, 1) => spoil_given(rng, bytes, lines),
-        (_, 2) => spoil_step(rng, bytes, record),
+        (1, _) => bytes[rng.below(edition.record_bytes())] = rng.byte(),
+        (2, _) => stray_byte(rng, edition, bytes),
+        (_, 1) => spoil_given(rng, edition, bytes, lines),
+        (_, 2) => spoil_step(rng, edition, bytes, record),
         _ => put_number(bytes, 2, rng.pick(&[0, record, record / 2, 0xFFFF])),
     }
 }
 
-fn stray_byte(rng: &mut Rng, bytes: &mut [u8]) {
+fn stray_byte(rng: &mut Rng, edition: Edition, bytes: &mut [u8]) {
     if let Some(record) = Record::read(bytes) {
-        bytes[rng.pick(&record.zero_bytes())] = rng.nonzero_byte();
+        bytes[rng.pick(&record.zero_bytes(edition))] = rng.nonzero_byte();
     }
 }
 
-fn spoil_given(rng: &mut Rng, bytes: &mut [u8], lines: usize) {
+fn spoil_given(rng: &mut Rng, edition: Edition, bytes: &mut [u8], lines: usize) {
     match rng.below(4) {
         0 => put_number(bytes, 6, lines),
-        1 => put_number(bytes, 6, rng.pick(&[lines + 1, RULE_LINES, 0xFFFF])),
+        1 => {
+            let beyond = [lines + 1, edition.table_lines(), 0xFFFF];
+            put_number(bytes, 6, rng.pick(&beyond));
+        }
         2 => put_number(bytes, 6, rng.below(lines.max(1))),
-        _ => flip_bit(rng, &mut bytes[8..24]),
+        _ => flip_bit(rng, &mut bytes[SETS..]),
     }
 }
 
-fn spoil_step(rng: &mut Rng, bytes: &mut [u8], record: usize) {
+fn spoil_step(rng: &mut Rng, edition: Edition, bytes: &mut [u8], record: usize) {
     let side = rng.pick(&[2, 4]);
     match rng.below(8) {
         0 => bytes[1] = rng.pick(&[64, 65, 127, 128, 255]),
-        1 => bytes[1] = rng.below(64) as u8,
+        1 => bytes[1] = rng.below(usize::from(edition.variables())) as u8,
         2 => {
-            let later = [record, record + 1, PRESS_RECORDS, 0xFFFF];
-            put_number(bytes, side, rng.pick(&later));
+            let late = [record, record + 1, edition.press_records(), 0xFFFF];
+            put_number(bytes, side, rng.pick(&late));
         }
         3 => put_number(bytes, side, rng.below(record + 1)),
         4 => {
@@ -62,8 +67,8 @@ fn spoil_step(rng: &mut Rng, bytes: &mut [u8], record: usize) {
             put_number(bytes, 2, right);
             put_number(bytes, 4, left);
         }
-        6 => lose_bit(rng, &mut bytes[8..24]),
-        _ => flip_bit(rng, &mut bytes[8..24]),
+        6 => lose_bit(rng, &mut bytes[SETS..]),
+        _ => flip_bit(rng, &mut bytes[SETS..]),
     }
 }
 
@@ -84,16 +89,17 @@ pub fn flip_bit(rng: &mut Rng, bytes: &mut [u8]) {
 }
 
 /// Records lost, doubled or exchanged.
-pub fn stir_records(rng: &mut Rng, sheet: &mut Vec<u8>) {
-    let count = sheet.len() / RECORD;
+pub fn stir_records(rng: &mut Rng, edition: Edition, sheet: &mut Vec<u8>) {
+    let size = edition.record_bytes();
+    let count = sheet.len() / size;
     let (one, other) = (rng.below(count), rng.below(count));
-    let bytes = sheet[one * RECORD..(one + 1) * RECORD].to_vec();
+    let bytes = sheet[one * size..(one + 1) * size].to_vec();
     match rng.below(3) {
-        0 => drop(sheet.drain(one * RECORD..(one + 1) * RECORD)),
-        1 => drop(sheet.splice(other * RECORD..other * RECORD, bytes)),
+        0 => drop(sheet.drain(one * size..(one + 1) * size)),
+        1 => drop(sheet.splice(other * size..other * size, bytes)),
         _ => {
-            sheet.copy_within(other * RECORD..(other + 1) * RECORD, one * RECORD);
-            sheet[other * RECORD..(other + 1) * RECORD].copy_from_slice(&bytes);
+            sheet.copy_within(other * size..(other + 1) * size, one * size);
+            sheet[other * size..(other + 1) * size].copy_from_slice(&bytes);
         }
     }
 }
@@ -123,16 +129,17 @@ pub fn set_count(bytes: &mut Vec<u8>, unit: usize, count: usize) {
 
 /// A sheet of noise: either any bytes, or records mostly zero, which get
 /// further before they are refused.
-pub fn noise(rng: &mut Rng, count: usize) -> Vec<u8> {
-    let mut sheet = vec![0; count * RECORD];
+pub fn noise(rng: &mut Rng, edition: Edition, count: usize) -> Vec<u8> {
+    let size = edition.record_bytes();
+    let mut sheet = vec![0; count * size];
     let wild = rng.chance(30);
-    for bytes in sheet.chunks_exact_mut(RECORD) {
+    for bytes in sheet.chunks_exact_mut(size) {
         if wild {
             bytes.fill_with(|| rng.byte());
         }
         bytes[0] = rng.pick(&[0, 1, 1, 1, 2, 2, 3, 3, 4]);
         if rng.chance(50) {
-            bytes[rng.below(RECORD)] = rng.pick(&[0, 1, 2, 63, 64, 255]);
+            bytes[rng.below(size)] = rng.pick(&[0, 1, 2, 63, 64, 255]);
         }
     }
     sheet
@@ -140,12 +147,13 @@ pub fn noise(rng: &mut Rng, count: usize) -> Vec<u8> {
 
 /// A rule table that is refused or as long as can be. The longest are left
 /// out of small cases.
-pub fn spoil_rule_table(rng: &mut Rng, rules: &mut Vec<u8>, small: bool) {
+pub fn spoil_rule_table(rng: &mut Rng, edition: Edition, rules: &mut Vec<u8>, small: bool) {
+    let (lines, line) = (edition.table_lines(), edition.line_bytes());
     match rng.below(if small { 3 } else { 6 }) {
-        0 | 1 => make_ragged(rng, rules, LINE),
+        0 | 1 => make_ragged(rng, rules, line),
         2 => flip_bit(rng, rules),
-        3 => rules.resize(RULE_LINES * LINE, 0),
-        4 => rules.resize((RULE_LINES + 1) * LINE, 0),
-        _ => rules.resize(RULE_LINES * LINE + rng.between(1, LINE - 1), 0),
+        3 => rules.resize(lines * line, 0),
+        4 => rules.resize((lines + 1) * line, 0),
+        _ => rules.resize(lines * line + rng.between(1, line - 1), 0),
     }
 }

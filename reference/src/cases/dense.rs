@@ -4,13 +4,14 @@
 use crate::cases::draft::Draft;
 use crate::cases::shapes::literal;
 use crate::clause::{Clause, Literal};
+use crate::edition::Edition;
 use crate::rng::Rng;
 
 /// Clauses with many variables both ways and pivots that recur late, so that
 /// little is cut and sharing survives into the pressed proof, where the order
 /// of premises then hangs on their uses.
-pub fn lattice(rng: &mut Rng, size: usize) -> Draft {
-    let mut variables: Vec<u8> = (0..64).collect();
+pub fn lattice(rng: &mut Rng, edition: Edition, size: usize) -> Draft {
+    let mut variables: Vec<u8> = (0..edition.variables()).collect();
     rng.shuffle(&mut variables);
     variables.truncate(rng.between(8, 20));
     let base: Clause = variables.iter().flat_map(both_ways).collect();
@@ -18,7 +19,8 @@ pub fn lattice(rng: &mut Rng, size: usize) -> Draft {
     let mut draft = Draft::default();
     for _ in 0..bases {
         let missing = literal(rng, &variables);
-        draft.add(rng, &base.without(missing), size - draft.nodes.len());
+        let room = size - draft.nodes.len();
+        draft.add(rng, edition, &base.without(missing), room);
     }
     let same_percent = rng.pick(&[0, 20, 40]);
     while draft.nodes.len() < size {
@@ -34,7 +36,7 @@ pub fn lattice(rng: &mut Rng, size: usize) -> Draft {
         let mut pivots = pivots.filter(|&pivot| draft.can_resolve(pivot, one, other));
         match pivots.next() {
             Some(pivot) => draft.resolve(pivot, one, other),
-            None => draft.add(rng, &base, size - count),
+            None => draft.add(rng, edition, &base, size - count),
         };
     }
     draft
@@ -46,13 +48,14 @@ fn both_ways(&variable: &u8) -> [Literal; 2] {
 
 /// A derived clause with variables both ways, resolved with itself again and
 /// again: as deep as a sheet can be, with parents named twice.
-pub fn tower(rng: &mut Rng, variables: &[u8], size: usize) -> Draft {
+pub fn tower(rng: &mut Rng, edition: Edition, variables: &[u8], size: usize) -> Draft {
     // one variable is left to derive it on
-    let variables = &variables[..variables.len().min(63)];
+    let most = usize::from(edition.variables()) - 1;
+    let variables = &variables[..variables.len().min(most)];
     let base: Clause = variables.iter().flat_map(both_ways).collect();
     let same_percent = rng.pick(&[100, 100, 50, 0]);
     let mut draft = Draft::default();
-    let first = draft.add(rng, &base, size);
+    let first = draft.add(rng, edition, &base, size);
     while draft.nodes.len() < size && draft.clause(first).holds_both_ways() {
         let last = draft.nodes.len() - 1;
         let other = if rng.chance(same_percent) {

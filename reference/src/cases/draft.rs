@@ -1,6 +1,7 @@
 //! A valid proof under construction, with the rule table it needs.
 
 use crate::clause::{resolve, Clause, Literal};
+use crate::edition::Edition;
 use crate::proof::Node;
 use crate::record::Record;
 use crate::rng::Rng;
@@ -27,24 +28,25 @@ impl Draft {
     /// Adds a clause, with at most `room` new nodes: a given node, or a derived
     /// one if it holds a variable both ways. Where there is no room for that, a
     /// given node with as much of it as may be.
-    pub fn add(&mut self, rng: &mut Rng, clause: &Clause, room: usize) -> usize {
+    pub fn add(&mut self, rng: &mut Rng, edition: Edition, clause: &Clause, room: usize) -> usize {
         if !clause.holds_both_ways() {
             self.give(rng, clause.clone())
         } else if room < nodes_for(clause) {
             self.give(rng, clause.one_way())
         } else {
-            self.derive(rng, clause)
+            self.derive(rng, edition, clause)
         }
     }
 
     /// Adds two given nodes and the step that makes the clause of them, on a
     /// variable that it lacks. Of a variable that it holds both ways, each given
     /// node has one literal.
-    pub fn derive(&mut self, rng: &mut Rng, clause: &Clause) -> usize {
-        let pivot = rng.pick(&clause.lacking());
+    pub fn derive(&mut self, rng: &mut Rng, edition: Edition, clause: &Clause) -> usize {
+        let pivot = rng.pick(&clause.lacking(edition));
         let mut left = Clause::default().with(Literal::Plus(pivot));
         let mut right = Clause::default().with(Literal::Minus(pivot));
-        let swapped: Vec<bool> = (0..64).map(|_| rng.chance(50)).collect();
+        let all = 0..edition.variables();
+        let swapped: Vec<bool> = all.map(|_| rng.chance(50)).collect();
         for literal in clause.literals() {
             let is_plus = matches!(literal, Literal::Plus(_));
             if is_plus != swapped[usize::from(literal.variable())] {
@@ -106,7 +108,7 @@ impl Draft {
 
     /// The same proof, but that a rule line which is named holds a variable both
     /// ways. All else is still good.
-    pub fn with_a_rule_both_ways(&self, rng: &mut Rng) -> Draft {
+    pub fn with_a_rule_both_ways(&self, rng: &mut Rng, edition: Edition) -> Draft {
         let line_of = |node: &Node| match node {
             Node::Given { line, .. } => Some(*line),
             Node::Step { .. } => None,
@@ -116,7 +118,7 @@ impl Draft {
         let clause = &self.rules[line];
         let held: Vec<u8> = clause.literals().map(Literal::variable).collect();
         let v = match held.is_empty() {
-            true => rng.below(64) as u8,
+            true => rng.below(edition.variables().into()) as u8,
             false => rng.pick(&held),
         };
         self.with_rule(line, clause.with(Literal::Plus(v)).with(Literal::Minus(v)))
@@ -143,13 +145,14 @@ impl Draft {
         draft
     }
 
-    pub fn sheet(&self) -> Vec<u8> {
+    pub fn sheet(&self, edition: Edition) -> Vec<u8> {
         let records = self.nodes.iter().cloned().map(Record::Node);
-        records.flat_map(|record| record.write()).collect()
+        records.flat_map(|record| record.write(edition)).collect()
     }
 
-    pub fn rule_table(&self) -> Vec<u8> {
-        self.rules.iter().flat_map(Clause::write).collect()
+    pub fn rule_table(&self, edition: Edition) -> Vec<u8> {
+        let lines = self.rules.iter();
+        lines.flat_map(|clause| clause.write(edition)).collect()
     }
 }
 

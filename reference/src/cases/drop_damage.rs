@@ -1,23 +1,23 @@
 //! Damage to the drops of a sheet for the replay.
 
-use crate::lengths::RECORD;
+use crate::edition::{Edition, SETS};
 use crate::record::Record;
 use crate::rng::Rng;
 
-type Bytes = [u8; RECORD];
+type Bytes = Vec<u8>;
 
 /// One change to the drops: lost, moved, doubled, with a stray byte, too many
 /// or of the last node.
-pub fn spoil_drops(rng: &mut Rng, sheet: &mut Vec<u8>) {
+pub fn spoil_drops(rng: &mut Rng, edition: Edition, sheet: &mut Vec<u8>) {
     let mut records: Vec<Bytes> = sheet
-        .chunks_exact(RECORD)
-        .map(|bytes| bytes.try_into().expect("a record's length"))
+        .chunks_exact(edition.record_bytes())
+        .map(<[u8]>::to_vec)
         .collect();
     let drops: Vec<usize> = (0..records.len())
         .filter(|&at| records[at][0] == 3)
         .collect();
     if drops.is_empty() || rng.chance(25) {
-        add_drop(rng, &mut records);
+        add_drop(rng, edition, &mut records);
     } else {
         let at = rng.pick(&drops);
         spoil_drop(rng, &mut records, at);
@@ -38,19 +38,22 @@ fn spoil_drop(rng: &mut Rng, records: &mut Vec<Bytes>, at: usize) {
             let later = rng.between(at, records.len());
             records.insert(later, moved);
         }
-        3 => records.insert(at, records[at]),
+        3 => records.insert(at, records[at].clone()),
         4 => {
             let later = rng.between(at + 1, records.len());
-            records.insert(later, records[at]);
+            records.insert(later, records[at].clone());
         }
         _ => {
-            let stray = rng.pick(&[1, 4, 5, 6, 7, 8, 15, 16, 23]);
+            // of the sets, the first and the last byte of each eight
+            let of_sets = (SETS..records[at].len()).filter(|at| [0, 7].contains(&(at % 8)));
+            let strays: Vec<usize> = [1, 4, 5, 6, 7].into_iter().chain(of_sets).collect();
+            let stray = rng.pick(&strays);
             records[at][stray] = rng.nonzero_byte();
         }
     }
 }
 
-fn add_drop(rng: &mut Rng, records: &mut Vec<Bytes>) {
+fn add_drop(rng: &mut Rng, edition: Edition, records: &mut Vec<Bytes>) {
     let nodes = records.iter().filter(|bytes| bytes[0] != 3).count();
     let at = rng.between(0, records.len());
     let (node, at) = match rng.below(4) {
@@ -58,5 +61,5 @@ fn add_drop(rng: &mut Rng, records: &mut Vec<Bytes>) {
         2 => (rng.below(nodes + 2), at),
         _ => (at, at),
     };
-    records.insert(at, Record::Drop { node }.write());
+    records.insert(at, Record::Drop { node }.write(edition));
 }

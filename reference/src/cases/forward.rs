@@ -3,12 +3,13 @@
 use crate::cases::draft::Draft;
 use crate::cases::shapes::clause;
 use crate::clause::Clause;
+use crate::edition::Edition;
 use crate::rng::Rng;
 
 /// Grows from the given clauses: chains, trees and shared nodes, depending on
 /// which nodes are preferred as parents. Wide clauses can be resolved almost
 /// anywhere, which makes dense proofs.
-pub fn forward(rng: &mut Rng, variables: &[u8], size: usize) -> Draft {
+pub fn forward(rng: &mut Rng, edition: Edition, variables: &[u8], size: usize) -> Draft {
     let wide = (2 * variables.len()).min(48);
     let width = rng.pick(&[1, 2, 3, 4, wide, wide]);
     let pool_size = rng.between(2, 12);
@@ -31,7 +32,7 @@ pub fn forward(rng: &mut Rng, variables: &[u8], size: usize) -> Draft {
             Some((pivot, left, right)) => draft.resolve(pivot, left, right),
             None => {
                 let clause = &pool[rng.below(pool.len())];
-                draft.add(rng, clause, size - draft.nodes.len())
+                draft.add(rng, edition, clause, size - draft.nodes.len())
             }
         };
     }

@@ -10,7 +10,7 @@ pub mod press_cases;
 pub mod replay_cases;
 pub mod shapes;
 
-use crate::lengths::PRESS_RECORDS;
+use crate::edition::Edition;
 use crate::rng::Rng;
 
 /// The arguments of one call. `room` and `marks` are lengths in bytes, `slots`
@@ -18,12 +18,14 @@ use crate::rng::Rng;
 #[derive(Clone, Debug, PartialEq, Eq)]
 pub enum Case {
     Press {
+        edition: Edition,
         sheet: Vec<u8>,
         rules: Vec<u8>,
         room: usize,
         marks: usize,
     },
     Replay {
+        edition: Edition,
         sheet: Vec<u8>,
         rules: Vec<u8>,
         slots: usize,
@@ -41,7 +43,8 @@ pub enum Size {
 impl Size {
     /// How many nodes the next proof is to have, if `small` is the most for a
     /// small case.
-    pub fn nodes(self, rng: &mut Rng, small: usize) -> usize {
+    pub fn nodes(self, rng: &mut Rng, edition: Edition, small: usize) -> usize {
+        let most = edition.press_records();
         match (self, rng.below(20)) {
             (_, 0) => 1,
             (_, 1..=2) => rng.between(2, 4),
@@ -49,8 +52,8 @@ impl Size {
             (Size::Any, 3) => rng.between(2, 4),
             (Size::Any, 4..=9) => rng.between(4, 16),
             (Size::Any, 10..=16) => rng.between(12, 60),
-            (Size::Any, 17..=18) => rng.between(60, PRESS_RECORDS),
-            (Size::Any, _) => PRESS_RECORDS,
+            (Size::Any, 17..=18) => rng.between(60, most),
+            (Size::Any, _) => most,
         }
     }
 }
@@ -58,9 +61,10 @@ impl Size {
 /// The case of this index under this seed.
 pub fn draw(seed: u64, index: u64, size: Size) -> Case {
     let mut rng = Rng::new(seed, index);
+    let edition = Edition::Narrow;
     if rng.chance(50) {
-        press_cases::draw(&mut rng, size)
+        press_cases::draw(&mut rng, edition, size)
     } else {
-        replay_cases::draw(&mut rng, size)
+        replay_cases::draw(&mut rng, edition, size)
     }
 }

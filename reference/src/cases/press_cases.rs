@@ -4,35 +4,36 @@ use crate::cases::damage::{
     make_ragged, noise, set_count, spoil_records, spoil_rule_table, stir_records,
 };
 use crate::cases::{shapes, Case, Size};
-use crate::lengths::{room_needed, LINE, PRESS_RECORDS, RECORD};
+use crate::edition::Edition;
 use crate::rng::Rng;
 
 const SMALL_NODES: usize = 16;
 
 /// Each kind of trouble is drawn by itself, so that they also meet in one case.
-pub fn draw(rng: &mut Rng, size: Size) -> Case {
+pub fn draw(rng: &mut Rng, edition: Edition, size: Size) -> Case {
     let small = size == Size::Small;
-    let nodes = size.nodes(rng, SMALL_NODES);
-    let draft = shapes::draw(rng, nodes);
-    let mut sheet = draft.sheet();
-    let mut rules = draft.rule_table();
+    let nodes = size.nodes(rng, edition, SMALL_NODES);
+    let draft = shapes::draw(rng, edition, nodes);
+    let mut sheet = draft.sheet(edition);
+    let mut rules = draft.rule_table(edition);
     if rng.chance(30) {
-        spoil_records(rng, &mut sheet, &rules);
+        spoil_records(rng, edition, &mut sheet, &rules);
     }
     if rng.chance(4) {
-        stir_records(rng, &mut sheet);
+        stir_records(rng, edition, &mut sheet);
     }
     if rng.chance(3) {
-        sheet = noise(rng, nodes.min(16));
+        sheet = noise(rng, edition, nodes.min(16));
     }
     if rng.chance(8) {
-        spoil_rule_table(rng, &mut rules, small);
+        spoil_rule_table(rng, edition, &mut rules, small);
     }
     if rng.chance(9) {
-        spoil_length(rng, &mut sheet, small);
+        spoil_length(rng, edition, &mut sheet, small);
     }
-    let (room, marks) = draw_room(rng, sheet.len() / RECORD, rules.len() / LINE);
+    let (room, marks) = draw_room(rng, edition, sheet.len(), rules.len());
     Case::Press {
+        edition,
         sheet,
         rules,
         room,
@@ -40,19 +41,21 @@ pub fn draw(rng: &mut Rng, size: Size) -> Case {
     }
 }
 
-fn spoil_length(rng: &mut Rng, sheet: &mut Vec<u8>, small: bool) {
+fn spoil_length(rng: &mut Rng, edition: Edition, sheet: &mut Vec<u8>, small: bool) {
+    let (record, most) = (edition.record_bytes(), edition.press_records());
     match rng.below(if small { 4 } else { 7 }) {
-        0..=2 => make_ragged(rng, sheet, RECORD),
+        0..=2 => make_ragged(rng, sheet, record),
         3 => sheet.clear(),
-        4 => set_count(sheet, RECORD, PRESS_RECORDS),
-        5 => set_count(sheet, RECORD, PRESS_RECORDS + 1),
-        _ => set_count(sheet, RECORD, PRESS_RECORDS + 40),
+        4 => set_count(sheet, record, most),
+        5 => set_count(sheet, record, most + 1),
+        _ => set_count(sheet, record, most + 40),
     }
 }
 
 /// Room and marks just enough, ample, one short or far short.
-fn draw_room(rng: &mut Rng, records: usize, lines: usize) -> (usize, usize) {
-    let needed = room_needed(records.max(1));
+fn draw_room(rng: &mut Rng, edition: Edition, sheet: usize, rules: usize) -> (usize, usize) {
+    let (records, lines) = (sheet / edition.record_bytes(), rules / edition.line_bytes());
+    let needed = edition.room(records.max(1));
     let room = around(rng, needed);
     (room, around(rng, lines))
 }

@@ -6,7 +6,7 @@ use crate::cases::damage::{
 use crate::cases::draft::Draft;
 use crate::cases::drop_damage::spoil_drops;
 use crate::cases::{shapes, Case, Size};
-use crate::lengths::{RECORD, REPLAY_RECORDS};
+use crate::edition::Edition;
 use crate::press::{read_proof, run_passes};
 use crate::record::Record;
 use crate::replay::{replay_watched, Slot};
@@ -15,32 +15,33 @@ use crate::rng::Rng;
 /// With its drops, a sheet has nearly twice as many records.
 const SMALL_NODES: usize = 9;
 
-pub fn draw(rng: &mut Rng, size: Size) -> Case {
+pub fn draw(rng: &mut Rng, edition: Edition, size: Size) -> Case {
     let small = size == Size::Small;
-    let nodes = size.nodes(rng, SMALL_NODES);
-    let draft = shapes::draw(rng, nodes);
-    let mut rules = draft.rule_table();
-    let mut sheet = base_sheet(rng, &draft);
+    let nodes = size.nodes(rng, edition, SMALL_NODES);
+    let draft = shapes::draw(rng, edition, nodes);
+    let mut rules = draft.rule_table(edition);
+    let mut sheet = base_sheet(rng, edition, &draft);
     if rng.chance(25) {
-        spoil_drops(rng, &mut sheet);
+        spoil_drops(rng, edition, &mut sheet);
     }
     if rng.chance(25) {
-        spoil_records(rng, &mut sheet, &rules);
+        spoil_records(rng, edition, &mut sheet, &rules);
     }
     if rng.chance(3) {
-        stir_records(rng, &mut sheet);
+        stir_records(rng, edition, &mut sheet);
     }
     if rng.chance(3) {
-        sheet = noise(rng, nodes.min(16));
+        sheet = noise(rng, edition, nodes.min(16));
     }
     if rng.chance(7) {
-        spoil_rule_table(rng, &mut rules, small);
+        spoil_rule_table(rng, edition, &mut rules, small);
     }
     if rng.chance(9) {
-        spoil_length(rng, &mut sheet, small);
+        spoil_length(rng, edition, &mut sheet, small);
     }
-    let slots = draw_slots(rng, &sheet, &rules);
+    let slots = draw_slots(rng, edition, &sheet, &rules);
     Case::Replay {
+        edition,
         sheet,
         rules,
         slots,
@@ -49,19 +50,19 @@ pub fn draw(rng: &mut Rng, size: Size) -> Case {
 
 /// A pressed sheet, if the press takes the draft, a sheet without drops, or a
 /// sheet whose nodes are dropped some time after their last use.
-fn base_sheet(rng: &mut Rng, draft: &Draft) -> Vec<u8> {
-    let proof = read_proof(&draft.sheet(), &draft.rule_table());
+fn base_sheet(rng: &mut Rng, edition: Edition, draft: &Draft) -> Vec<u8> {
+    let proof = read_proof(edition, &draft.sheet(edition), &draft.rule_table(edition));
     match (rng.below(10), proof) {
         (0..=5, Ok(proof)) => {
             let records = run_passes(proof).records;
-            records.iter().flat_map(Record::write).collect()
+            records.iter().flat_map(|r| r.write(edition)).collect()
         }
-        (6, _) => draft.sheet(),
-        _ => loosely_dropped(rng, draft),
+        (6, _) => draft.sheet(edition),
+        _ => loosely_dropped(rng, edition, draft),
     }
 }
 
-fn loosely_dropped(rng: &mut Rng, draft: &Draft) -> Vec<u8> {
+fn loosely_dropped(rng: &mut Rng, edition: Edition, draft: &Draft) -> Vec<u8> {
     let last = draft.nodes.len() - 1;
     let patience = rng.pick(&[0, 1, 5]);
     let mut drops_after: Vec<Vec<usize>> = vec![vec![]; draft.nodes.len()];
@@ -75,29 +76,33 @@ fn loosely_dropped(rng: &mut Rng, draft: &Draft) -> Vec<u8> {
     }
     let mut sheet = vec![];
     for (node, mut drops) in draft.nodes.iter().zip(drops_after) {
-        sheet.extend(Record::Node(node.clone()).write());
+        sheet.extend(Record::Node(node.clone()).write(edition));
         rng.shuffle(&mut drops);
-        sheet.extend(drops.iter().flat_map(|&node| Record::Drop { node }.write()));
+        let drop = |&node: &usize| Record::Drop { node }.write(edition);
+        sheet.extend(drops.iter().flat_map(drop));
     }
     sheet
 }
 
-fn spoil_length(rng: &mut Rng, sheet: &mut Vec<u8>, small: bool) {
+fn spoil_length(rng: &mut Rng, edition: Edition, sheet: &mut Vec<u8>, small: bool) {
+    let (record, most) = (edition.record_bytes(), edition.replay_records());
     match rng.below(if small { 4 } else { 7 }) {
-        0..=2 => make_ragged(rng, sheet, RECORD),
+        0..=2 => make_ragged(rng, sheet, record),
         3 => sheet.clear(),
-        4 => set_count(sheet, RECORD, REPLAY_RECORDS),
-        5 => set_count(sheet, RECORD, REPLAY_RECORDS + 1),
-        _ => set_count(sheet, RECORD, REPLAY_RECORDS + 40),
+        4 => set_count(sheet, record, most),
+        5 => set_count(sheet, record, most + 1),
+        _ => set_count(sheet, record, most + 40),
     }
 }
 
 /// Slots around the number that the sheet needs as far as it is good.
-fn draw_slots(rng: &mut Rng, sheet: &[u8], rules: &[u8]) -> usize {
-    let mut ample = vec![Slot::default(); sheet.len() / RECORD];
+fn draw_slots(rng: &mut Rng, edition: Edition, sheet: &[u8], rules: &[u8]) -> usize {
+    let mut ample = vec![Slot::default(); sheet.len() / edition.record_bytes()];
     let mut peak = 0;
     // Only the peak on the way matters, also when the sheet is refused.
-    let _ = replay_watched(sheet, rules, &mut ample, |tally, _| peak = tally.peak);
+    let _ = replay_watched(edition, sheet, rules, &mut ample, |tally, _| {
+        peak = tally.peak;
+    });
     match rng.below(20) {
         0..=12 => peak,
         13..=14 => peak.saturating_sub(1),

@@ -5,42 +5,43 @@ use crate::cases::dense::{lattice, tower};
 use crate::cases::draft::Draft;
 use crate::cases::forward::forward;
 use crate::clause::{Clause, Literal};
-use crate::lengths::{PRESS_RECORDS, RULE_LINES};
+use crate::edition::Edition;
 use crate::rng::Rng;
 
 /// A valid proof of exactly `size` nodes, but that now and then a rule line that
 /// it names holds a variable both ways.
-pub fn draw(rng: &mut Rng, size: usize) -> Draft {
-    let draft = valid(rng, size);
+pub fn draw(rng: &mut Rng, edition: Edition, size: usize) -> Draft {
+    let draft = valid(rng, edition, size);
     match rng.chance(4) {
-        true => draft.with_a_rule_both_ways(rng),
+        true => draft.with_a_rule_both_ways(rng, edition),
         false => draft,
     }
 }
 
-fn valid(rng: &mut Rng, size: usize) -> Draft {
-    let variables = draw_variables(rng);
-    let depth_wanted = size == PRESS_RECORDS && rng.chance(15);
+fn valid(rng: &mut Rng, edition: Edition, size: usize) -> Draft {
+    let variables = draw_variables(rng, edition);
+    let depth_wanted = size == edition.press_records() && rng.chance(15);
     let shape = if depth_wanted { 19 } else { rng.below(20) };
     let mut draft = match shape {
-        0..=5 => forward(rng, &variables, size),
-        6..=14 => backward(rng, &variables, size),
-        15..=18 => lattice(rng, size),
-        _ => tower(rng, &variables, size),
+        0..=5 => forward(rng, edition, &variables, size),
+        6..=14 => backward(rng, edition, &variables, size),
+        15..=18 => lattice(rng, edition, size),
+        _ => tower(rng, edition, &variables, size),
     };
     pad(rng, &variables, &mut draft, size);
     if rng.chance(40) {
         draft = shuffled(rng, &draft);
     }
-    add_rule_lines(rng, &variables, &mut draft);
+    add_rule_lines(rng, edition, &variables, &mut draft);
     draft
 }
 
 /// Few variables make pivots recur along paths, so that recycling cuts; where
-/// they lie among the 64 is drawn too, with the ends made likely.
-fn draw_variables(rng: &mut Rng) -> Vec<u8> {
-    let count = rng.pick(&[1, 2, 2, 3, 3, 4, 5, 8, 64]);
-    let mut all: Vec<u8> = (0..64).collect();
+/// they lie among all is drawn too, with the ends made likely.
+fn draw_variables(rng: &mut Rng, edition: Edition) -> Vec<u8> {
+    let most = edition.variables();
+    let count = rng.pick(&[1, 2, 2, 3, 3, 4, 5, 8, most.into()]);
+    let mut all: Vec<u8> = (0..most).collect();
     rng.shuffle(&mut all);
     if rng.chance(30) {
         all.sort_by_key(|v| !matches!(v, 0 | 7 | 8 | 31 | 32 | 63));
@@ -95,8 +96,8 @@ fn shuffled(rng: &mut Rng, draft: &Draft) -> Draft {
 }
 
 /// Rule lines nobody names, now and then as many as the table may have.
-fn add_rule_lines(rng: &mut Rng, variables: &[u8], draft: &mut Draft) {
-    let room = RULE_LINES - draft.rules.len();
+fn add_rule_lines(rng: &mut Rng, edition: Edition, variables: &[u8], draft: &mut Draft) {
+    let room = edition.table_lines() - draft.rules.len();
     let more = if draft.nodes.len() > 16 && rng.chance(5) {
         room
     } else {

@@ -8,6 +8,7 @@ pub mod starred;
 pub mod telling;
 
 use crate::clause::{Clause, Literal};
+use crate::edition::Edition;
 use crate::press::{read_proof, run_passes};
 use crate::proof::Node;
 use crate::record::Record;
@@ -40,12 +41,13 @@ pub fn dropped(node: usize) -> Record {
     Record::Drop { node }
 }
 
-pub fn sheet(records: &[Record]) -> Vec<u8> {
-    records.iter().flat_map(Record::write).collect()
+pub fn sheet(edition: Edition, records: &[Record]) -> Vec<u8> {
+    records.iter().flat_map(|r| r.write(edition)).collect()
 }
 
-pub fn rules(lines: &[&str]) -> Vec<u8> {
-    lines.iter().flat_map(|line| clause(line).write()).collect()
+pub fn rules(edition: Edition, lines: &[&str]) -> Vec<u8> {
+    let line = |line: &&str| clause(line).write(edition);
+    lines.iter().flat_map(line).collect()
 }
 
 /// A sheet and its rule table, under the name that the definitions have for it.
@@ -54,8 +56,10 @@ pub struct Worked {
     pub name: &'static str,
     pub rules: Vec<&'static str>,
     pub records: Vec<Record>,
-    /// A byte of the sheet that is written over.
-    pub spoilt: Option<(usize, u8)>,
+    /// A byte of the sheet that is written over: record, place, byte.
+    pub spoilt: Option<(usize, usize, u8)>,
+    /// Narrow, if nothing else is said.
+    pub edition: Edition,
 }
 
 impl Worked {
@@ -65,19 +69,25 @@ impl Worked {
             rules: rules.to_vec(),
             records: records.to_vec(),
             spoilt: None,
+            edition: Edition::Narrow,
         }
     }
 
+    /// The same sheet in this edition.
+    pub fn in_edition(self, edition: Edition) -> Worked {
+        Worked { edition, ..self }
+    }
+
     pub fn sheet(&self) -> Vec<u8> {
-        let mut bytes = sheet(&self.records);
-        if let Some((at, byte)) = self.spoilt {
-            bytes[at] = byte;
+        let mut bytes = sheet(self.edition, &self.records);
+        if let Some((record, at, byte)) = self.spoilt {
+            bytes[record * self.edition.record_bytes() + at] = byte;
         }
         bytes
     }
 
     pub fn table(&self) -> Vec<u8> {
-        rules(&self.rules)
+        rules(self.edition, &self.rules)
     }
 
     pub fn bytes(&self) -> (Vec<u8>, Vec<u8>) {
@@ -86,7 +96,7 @@ impl Worked {
 
     /// What the press writes, if the sheet is good.
     pub fn pressed(&self) -> Option<Vec<Record>> {
-        let proof = read_proof(&self.sheet(), &self.table()).ok()?;
+        let proof = read_proof(self.edition, &self.sheet(), &self.table()).ok()?;
         Some(run_passes(proof).records)
     }
 }
@@ -95,7 +105,10 @@ impl Worked {
 /// sheet and what is written of it, as hex.
 pub fn listing() -> String {
     let line = |worked: &Worked| {
-        let out = sheet(&worked.pressed().expect("the press takes it"));
+        let out = sheet(
+            worked.edition,
+            &worked.pressed().expect("the press takes it"),
+        );
         let words = [worked.table(), worked.sheet(), out].map(|bytes| hex(&bytes));
         format!("{} {}\n", worked.name, words.join(" "))
     };

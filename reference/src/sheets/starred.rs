@@ -1,7 +1,7 @@
 //! "Sheets to try", in the words of document 01.
 
 use super::{dropped, given, step, Worked};
-use crate::lengths::PRESS_RECORDS;
+use crate::edition::Edition;
 
 pub fn lone() -> Worked {
     Worked::new("lone", &["+0"], &[given(0, "+0")])
@@ -86,7 +86,8 @@ pub fn forward() -> Worked {
 pub fn deep() -> Worked {
     let mut records = vec![given(0, "+0 +1"), given(1, "-0 -1")];
     records.push(step(1, 0, 1, "+0 -0"));
-    records.extend((2..PRESS_RECORDS - 1).map(|node| step(0, node, node, "+0 -0")));
+    let most = Edition::Narrow.press_records();
+    records.extend((2..most - 1).map(|node| step(0, node, node, "+0 -0")));
     Worked::new("deep", &["+0 +1", "-0 -1"], &records)
 }
 

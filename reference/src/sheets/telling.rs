@@ -121,7 +121,7 @@ pub fn shared_reset() -> Worked {
 pub fn bad_drop() -> Worked {
     let records = [given(0, "+0"), dropped(0)];
     Worked {
-        spoilt: Some((29, 1)),
+        spoilt: Some((1, 5, 1)),
         ..Worked::new("badDrop", &["+0"], &records)
     }
 }

@@ -6,57 +6,65 @@ mod passes;
 mod records;
 
 use crate::cases::Case;
-use crate::lengths::{room_needed, LINE, RECORD};
+use crate::edition::Edition;
 use crate::sheets::starred::pair;
 use crate::sheets::{sheet, Worked};
 use crate::stream::Entry;
 
 pub fn entries() -> Vec<Entry> {
+    of_both(Edition::Narrow)
+}
+
+/// The cases that both editions have.
+fn of_both(edition: Edition) -> Vec<Entry> {
     [
-        listed::presses(),
-        listed::replays(),
-        listed::pivot_and_forward(),
-        listed::limits(),
-        records::lengths(),
-        records::fields(),
-        records::full_row(),
-        records::results(),
-        records::rule_lines(),
-        records::both_ways(),
-        records::drops(),
-        records::ends(),
-        records::drops_for_the_press(),
-        records::bytes_of_a_drop(),
-        passes::slips(),
-        passes::stand_ins(),
-        passes::orders(),
-        passes::cuts(),
+        listed::presses(edition),
+        listed::replays(edition),
+        listed::pivot_and_forward(edition),
+        listed::limits(edition),
+        records::lengths(edition),
+        records::fields(edition),
+        records::full_row(edition),
+        records::results(edition),
+        records::rule_lines(edition),
+        records::both_ways(edition),
+        records::drops(edition),
+        records::ends(edition),
+        records::drops_for_the_press(edition),
+        records::bytes_of_a_drop(edition),
+        passes::slips(edition),
+        passes::stand_ins(edition),
+        passes::orders(edition),
+        passes::cuts(edition),
     ]
     .concat()
 }
 
 fn press_sheet(worked: &Worked) -> Entry {
-    press(&worked.sheet(), &worked.table())
+    press(worked.edition, &worked.sheet(), &worked.table())
 }
 
 fn replay_sheet(worked: &Worked, slots: usize) -> Entry {
-    replay(&worked.sheet(), &worked.table(), slots)
+    replay(worked.edition, &worked.sheet(), &worked.table(), slots)
 }
 
 fn both_of(worked: &Worked, slots: usize) -> Vec<Entry> {
-    both(&worked.sheet(), &worked.table(), slots)
+    both(worked.edition, &worked.sheet(), &worked.table(), slots)
 }
 
 /// A press with room and marks to spare.
-fn press(sheet: &[u8], rules: &[u8]) -> Entry {
-    let room = room_needed((sheet.len() / RECORD).max(1)) + 7;
-    press_in(sheet, rules, room, rules.len() / LINE + 7)
+fn press(edition: Edition, sheet: &[u8], rules: &[u8]) -> Entry {
+    let records = sheet.len() / edition.record_bytes();
+    let room = edition.room(records.max(1)) + 7;
+    let marks = rules.len() / edition.line_bytes() + 7;
+    press_in(edition, sheet, rules, room, marks)
 }
 
-fn press_in(sheet: &[u8], rules: &[u8], room: usize, marks: usize) -> Entry {
+fn press_in(edition: Edition, sheet: &[u8], rules: &[u8], room: usize, marks: usize) -> Entry {
     let (sheet, rules) = (sheet.to_vec(), rules.to_vec());
     Entry {
         case: Case::Press {
+            edition,
             sheet,
             rules,
             room,
@@ -67,10 +75,11 @@ fn press_in(sheet: &[u8], rules: &[u8], room: usize, marks: usize) -> Entry {
 }
 
 /// A replay of which each record is shown.
-fn replay(sheet: &[u8], rules: &[u8], slots: usize) -> Entry {
+fn replay(edition: Edition, sheet: &[u8], rules: &[u8], slots: usize) -> Entry {
     let (sheet, rules) = (sheet.to_vec(), rules.to_vec());
     Entry {
         case: Case::Replay {
+            edition,
             sheet,
             rules,
             slots,
@@ -80,27 +89,33 @@ fn replay(sheet: &[u8], rules: &[u8], slots: usize) -> Entry {
 }
 
 /// A replay that is too long to be shown.
-fn long_replay(sheet: &[u8], rules: &[u8], slots: usize) -> Entry {
+fn long_replay(edition: Edition, sheet: &[u8], rules: &[u8], slots: usize) -> Entry {
     Entry {
         shown: false,
-        ..replay(sheet, rules, slots)
+        ..replay(edition, sheet, rules, slots)
     }
 }
 
-fn both(sheet: &[u8], rules: &[u8], slots: usize) -> Vec<Entry> {
-    vec![press(sheet, rules), replay(sheet, rules, slots)]
+fn both(edition: Edition, sheet: &[u8], rules: &[u8], slots: usize) -> Vec<Entry> {
+    vec![
+        press(edition, sheet, rules),
+        replay(edition, sheet, rules, slots),
+    ]
 }
 
 /// What the press makes of a good sheet.
 fn pressed(worked: &Worked) -> Vec<u8> {
-    sheet(&worked.pressed().expect("the sheet is good"))
+    sheet(
+        worked.edition,
+        &worked.pressed().expect("the sheet is good"),
+    )
 }
 
 /// *pair* with some of its bytes changed: record, place, byte.
-fn pair_with(changes: &[(usize, usize, u8)]) -> Vec<u8> {
-    let mut sheet = pair().sheet();
+fn pair_with(edition: Edition, changes: &[(usize, usize, u8)]) -> Vec<u8> {
+    let mut sheet = pair().in_edition(edition).sheet();
     for &(record, at, byte) in changes {
-        sheet[record * RECORD + at] = byte;
+        sheet[record * edition.record_bytes() + at] = byte;
     }
     sheet
 }

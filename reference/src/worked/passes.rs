@@ -1,10 +1,17 @@
 //! "Slips that look right", and what the passes can come to.
 
-use super::press_sheet as press;
+use super::press_sheet;
+use crate::edition::Edition;
 use crate::sheets::telling::*;
+use crate::sheets::Worked;
 use crate::stream::Entry;
 
-pub fn slips() -> Vec<Entry> {
+fn presses<const N: usize>(edition: Edition, sheets: [Worked; N]) -> Vec<Entry> {
+    let press = |worked: Worked| press_sheet(&worked.in_edition(edition));
+    sheets.into_iter().map(press).collect()
+}
+
+pub fn slips(edition: Edition) -> Vec<Entry> {
     let sheets = [
         mirrored(),
         shared_reset(),
@@ -12,26 +19,20 @@ pub fn slips() -> Vec<Entry> {
         twice_again(),
         unmarked(),
     ];
-    sheets.iter().map(press).collect()
+    presses(edition, sheets)
 }
 
-pub fn stand_ins() -> Vec<Entry> {
-    [both_lack(), twice_after()].iter().map(press).collect()
+pub fn stand_ins(edition: Edition) -> Vec<Entry> {
+    presses(edition, [both_lack(), twice_after()])
 }
 
 /// "Of two premises the one with more uses in the pressed proof goes first;
 /// equal: left."
-pub fn orders() -> Vec<Entry> {
-    [heavier_right(), places(), second_trim()]
-        .iter()
-        .map(press)
-        .collect()
+pub fn orders(edition: Edition) -> Vec<Entry> {
+    presses(edition, [heavier_right(), places(), second_trim()])
 }
 
 /// The rest of what the definitions compute.
-pub fn cuts() -> Vec<Entry> {
-    [right_cut(), left_cut(), either_way()]
-        .iter()
-        .map(press)
-        .collect()
+pub fn cuts(edition: Edition) -> Vec<Entry> {
+    presses(edition, [right_cut(), left_cut(), either_way()])
 }

@@ -1,13 +1,27 @@
-//! Calls with memory that shows what was touched.
+//! Calls with memory that shows what was touched. What does not name an edition
+//! is of the narrow one.
 #![allow(dead_code, unused_imports)] // each test file uses its own part of this module
 
-use reference::lengths::{room_needed, LINE, RECORD};
-use reference::press::{press, Pressed};
+pub use reference::edition::Edition::{self, Narrow, Wide};
+use reference::press::{press, read_proof, run_passes, Passes, Pressed};
+use reference::record::Record;
 use reference::refusal::Refusal;
 use reference::replay::{replay_watched, Replayed, Slot, Tally};
 pub use reference::sheets::starred::*;
 pub use reference::sheets::telling::*;
 pub use reference::sheets::*;
+
+pub fn sheet(records: &[Record]) -> Vec<u8> {
+    reference::sheets::sheet(Narrow, records)
+}
+
+pub fn rules(lines: &[&str]) -> Vec<u8> {
+    reference::sheets::rules(Narrow, lines)
+}
+
+pub fn passes(sheet: &[u8], rules: &[u8]) -> Passes {
+    run_passes(read_proof(Narrow, sheet, rules).unwrap())
+}
 
 /// What lent memory holds before a call.
 pub const OLD: u8 = 0xA5;
@@ -21,11 +35,16 @@ pub struct Done {
 /// An accepted press. Checks on the way that marks are 0 or 1 and that output
 /// and marks beyond are untouched.
 pub fn press_ok(sheet: &[u8], rules: &[u8]) -> Done {
-    let lines = rules.len() / LINE;
-    let mut out = vec![OLD; room_needed(sheet.len() / RECORD) + 7];
+    press_ok_in(Narrow, sheet, rules)
+}
+
+pub fn press_ok_in(edition: Edition, sheet: &[u8], rules: &[u8]) -> Done {
+    let record = edition.record_bytes();
+    let lines = rules.len() / edition.line_bytes();
+    let mut out = vec![OLD; edition.room(sheet.len() / record) + 7];
     let mut marks = vec![OLD; lines + 7];
-    let pressed = press(sheet, rules, &mut out, &mut marks).unwrap();
-    let (out, beyond_out) = out.split_at(pressed.records * RECORD);
+    let pressed = press(edition, sheet, rules, &mut out, &mut marks).unwrap();
+    let (out, beyond_out) = out.split_at(pressed.records * record);
     let (marks, beyond_marks) = marks.split_at(lines);
     assert!(beyond_out.iter().chain(beyond_marks).all(|&b| b == OLD));
     assert!(marks.iter().all(|&mark| mark <= 1));
@@ -40,13 +59,24 @@ pub fn press_ok(sheet: &[u8], rules: &[u8]) -> Done {
 
 /// A refused press with ample room. Checks on the way that nothing is touched.
 pub fn press_refused(sheet: &[u8], rules: &[u8]) -> (u32, usize) {
-    press_refused_with(sheet, rules, 48 * (sheet.len() / RECORD) + 48, 2000)
+    press_refused_in(Narrow, sheet, rules, None)
 }
 
 pub fn press_refused_with(sheet: &[u8], rules: &[u8], room: usize, marks: usize) -> (u32, usize) {
+    press_refused_in(Narrow, sheet, rules, Some((room, marks)))
+}
+
+/// With this room and these marks, or with ample ones.
+pub fn press_refused_in(
+    edition: Edition,
+    sheet: &[u8],
+    rules: &[u8],
+    lent: Option<(usize, usize)>,
+) -> (u32, usize) {
+    let (room, marks) = lent.unwrap_or((2 * sheet.len() + 48, 2000));
     let mut out = vec![OLD; room];
     let mut marks = vec![OLD; marks];
-    let refusal = press(sheet, rules, &mut out, &mut marks).unwrap_err();
+    let refusal = press(edition, sheet, rules, &mut out, &mut marks).unwrap_err();
     assert!(out.iter().chain(&marks).all(|&byte| byte == OLD));
     (refusal.number, refusal.record)
 }
@@ -55,7 +85,7 @@ pub fn press_refused_with(sheet: &[u8], rules: &[u8], room: usize, marks: usize)
 pub const OLD_SLOT: Slot = Slot {
     used: true,
     node: 0,
-    positive: u64::MAX,
+    positive: u128::MAX,
     negative: 1,
 };
 
@@ -68,9 +98,18 @@ pub fn replay_traced(
     rules: &[u8],
     slots: usize,
 ) -> (Result<Replayed, (u32, usize)>, Trace) {
+    replay_traced_in(Narrow, sheet, rules, slots)
+}
+
+pub fn replay_traced_in(
+    edition: Edition,
+    sheet: &[u8],
+    rules: &[u8],
+    slots: usize,
+) -> (Result<Replayed, (u32, usize)>, Trace) {
     let mut row = vec![OLD_SLOT; slots];
     let mut trace = vec![];
-    let answer = replay_watched(sheet, rules, &mut row, |tally, row| {
+    let answer = replay_watched(edition, sheet, rules, &mut row, |tally, row| {
         trace.push((*tally, row.to_vec()));
     });
     let end = match answer {
