@@ -337,9 +337,9 @@ def run_all(t, disk):
 
 def draw(t, seed, count):
     """The sheets and rule tables of random cases, those for the replay too: most of their drops are refused by 6."""
-    words = [t.reference, "cases", "--seed", str(seed), "--count", str(count)]
+    words = [t.reference, "cases", "--seed", str(seed), "--count", str(count), "--edition", "narrow"]
     blocks = subprocess.run(words, check=True, capture_output=True, text=True).stdout.strip().split("\n\n")
-    return [[bytes.fromhex(w) if w != "-" else b"" for w in block.split("\n")[0].split()[1:3]] for block in blocks]
+    return [[bytes.fromhex(w) if w != "-" else b"" for w in block.split("\n")[0].split()[2:4]] for block in blocks]
 
 
 def compare(t, seed, count):

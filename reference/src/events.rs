@@ -82,6 +82,35 @@ fn output_events(passes: &Passes) -> Vec<Event> {
     ]
 }
 
+/// Variables that only the wide edition has, in what is emitted.
+pub fn high_events(passes: &Passes) -> Vec<Event> {
+    let nodes = || passes.pressed.nodes.values();
+    let high = |node: &Node| {
+        let mut literals = node.clause().literals();
+        literals.any(|literal| literal.variable() > 63)
+    };
+    let pivot = |node: &Node| matches!(node, Node::Step { pivot: 64.., .. });
+    let given = |node: &Node| matches!(node, Node::Given { .. });
+    vec![
+        ("wide: a pivot over 63", nodes().any(pivot)),
+        (
+            "wide: over 63 in a given clause",
+            nodes().any(|node| given(node) && high(node)),
+        ),
+        (
+            "wide: over 63 in a derived clause",
+            nodes().any(|node| !given(node) && high(node)),
+        ),
+        (
+            "wide: a cut on a pivot over 63",
+            passes
+                .visits
+                .iter()
+                .any(|(number, visit)| visit.cut.is_some() && pivot(&passes.trimmed.nodes[number])),
+        ),
+    ]
+}
+
 /// Whether the preference among premises made a difference: against going left
 /// always, against ties going right, and against counting children as 002 does.
 fn order_events(passes: &Passes) -> Vec<Event> {

@@ -1,7 +1,8 @@
 //! `reference cases`, `press`, `random`, `sheets`, `shelf`, `stats`, `tables` and
 //! `worked`.
 
-use reference::cases::{draw, Size};
+use reference::cases::{draw, draw_in, Size};
+use reference::edition::Edition;
 use reference::shelf::Shelf;
 use reference::stream::{self, Entry};
 use reference::{program, sheets, stats, tables, text, worked};
@@ -11,7 +12,7 @@ use std::process::ExitCode;
 use std::{fs, iter};
 
 const USAGE: &str = "usage:
-  reference cases --seed S --count N [--small] [--trace]
+  reference cases --seed S --count N [--small] [--trace] [--edition narrow|wide]
   reference press DIR
   reference random --seed S --count N DIR
   reference sheets
@@ -66,6 +67,7 @@ struct Drawing {
     count: u64,
     size: Size,
     trace: bool,
+    edition: Option<Edition>,
 }
 
 fn with_drawing(
@@ -77,6 +79,7 @@ fn with_drawing(
         count: 100,
         size: Size::Any,
         trace: false,
+        edition: None,
     };
     let mut flags = flags.iter();
     while let Some(&flag) = flags.next() {
@@ -89,6 +92,10 @@ fn with_drawing(
             "--count" => drawing.count = number()?,
             "--small" => drawing.size = Size::Small,
             "--trace" => drawing.trace = true,
+            "--edition" => {
+                let word = flags.next().ok_or(USAGE)?;
+                drawing.edition = Some(Edition::of_word(word).ok_or(USAGE)?);
+            }
             _ => return Err(USAGE.to_string()),
         }
     }
@@ -97,7 +104,11 @@ fn with_drawing(
 
 fn print_cases(drawing: &Drawing) -> Result<(), String> {
     for index in 0..drawing.count {
-        let case = draw(drawing.seed, index, drawing.size);
+        let (seed, size) = (drawing.seed, drawing.size);
+        let case = match drawing.edition {
+            None => draw(seed, index, size),
+            Some(edition) => draw_in(edition, seed, index, size),
+        };
         print(&format!("{}\n", text::block(&case, drawing.trace)))?;
     }
     Ok(())

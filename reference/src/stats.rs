@@ -4,7 +4,7 @@
 use crate::cases::{draw, Case, Size};
 use crate::clause::Clause;
 use crate::edition::Edition;
-use crate::events::{pass_events, Event};
+use crate::events::{high_events, pass_events, Event};
 use crate::judge::TRIED;
 use crate::press::{press, read_proof, record_faults, run_passes};
 use crate::record::Record;
@@ -14,8 +14,8 @@ use std::iter;
 
 #[derive(Default)]
 pub struct Stats {
-    press: BTreeMap<u32, usize>,
-    replay: BTreeMap<u32, usize>,
+    press: BTreeMap<(Edition, u32), usize>,
+    replay: BTreeMap<(Edition, u32), usize>,
     events: BTreeMap<&'static str, usize>,
     together: BTreeMap<BTreeSet<u32>, usize>,
 }
@@ -54,37 +54,21 @@ impl Stats {
         room: usize,
         marks: usize,
     ) {
-        let records = sheet.len() / edition.record_bytes();
-        let lines = rules.len() / edition.line_bytes();
         let (mut out, mut marks) = (vec![0; room], vec![0; marks]);
         match press(edition, sheet, rules, &mut out, &mut marks) {
             Err(refusal) => {
-                *self.press.entry(refusal.number).or_default() += 1;
+                *self.press.entry((edition, refusal.number)).or_default() += 1;
                 if refusal.number > 5 {
                     self.count_together(press_faults_at(edition, sheet, rules, refusal.record));
                 }
             }
             Ok(_) => {
-                *self.press.entry(ACCEPTED).or_default() += 1;
+                *self.press.entry((edition, ACCEPTED)).or_default() += 1;
                 let proof = read_proof(edition, sheet, rules).expect("it was accepted");
-                self.count_events(&pass_events(&run_passes(proof)));
-                self.count_events(&[
-                    (
-                        "press: most records accepted",
-                        records == edition.press_records(),
-                    ),
-                    (
-                        "press: room exactly as needed",
-                        room == edition.room(records),
-                    ),
-                    ("press: most rule lines", lines == edition.table_lines()),
-                    (
-                        "press: an unused line holds v both ways",
-                        rules
-                            .chunks_exact(edition.line_bytes())
-                            .any(|line| Clause::read(line).holds_both_ways()),
-                    ),
-                ]);
+                let passes = run_passes(proof);
+                self.count_events(&pass_events(&passes));
+                self.count_events(&high_events(&passes));
+                self.count_events(&size_events(edition, sheet, rules, room));
             }
         }
     }
@@ -96,7 +80,7 @@ impl Stats {
         let watch = |tally: &Tally, row: &[Slot]| seen.note(tally, row);
         match replay_watched(edition, sheet, rules, &mut row, watch) {
             Err(refusal) => {
-                *self.replay.entry(refusal.number).or_default() += 1;
+                *self.replay.entry((edition, refusal.number)).or_default() += 1;
                 if TRIED.contains(&refusal.number) {
                     self.count_together(replay_faults_at(
                         edition,
@@ -108,7 +92,7 @@ impl Stats {
                 }
             }
             Ok(_) => {
-                *self.replay.entry(ACCEPTED).or_default() += 1;
+                *self.replay.entry((edition, ACCEPTED)).or_default() += 1;
                 self.count_events(&[
                     ("replay: accepted with drops", seen.dropped),
                     ("replay: a slot used again", seen.reused),
@@ -137,15 +121,23 @@ impl Stats {
 
     /// The table that `reference stats` prints.
     pub fn table(&self) -> String {
-        let mut table = String::from("number        press   replay\n");
+        let words = Edition::ALL.map(Edition::word).repeat(2);
+        let words: String = words.iter().map(|word| format!(" {word:>8}")).collect();
+        let mut table = format!("{:12} {:>17} {:>17}\n", "", "press", "replay");
+        table += &format!("{:12}{words}\n", "number");
         for number in iter::once(ACCEPTED).chain(numbers()) {
             let name = match number {
                 ACCEPTED => "accepted".to_string(),
                 _ => format!("refused {number}"),
             };
-            let press = self.press.get(&number).unwrap_or(&0);
-            let replay = self.replay.get(&number).unwrap_or(&0);
-            table += &format!("{name:<12} {press:>6}   {replay:>6}\n");
+            table += &format!("{name:<12}");
+            for job in [&self.press, &self.replay] {
+                for edition in Edition::ALL {
+                    let count = job.get(&(edition, number)).unwrap_or(&0);
+                    table += &format!(" {count:>8}");
+                }
+            }
+            table += "\n";
         }
         table += "\nevent (number of accepted cases)\n";
         for (name, count) in &self.events {
@@ -160,16 +152,49 @@ impl Stats {
 
     /// Numbers that never occurred although the call can answer them.
     pub fn missing(&self) -> Vec<String> {
-        let press = numbers().filter(|n| ![10, 15, 16].contains(n) && !self.press.contains_key(n));
-        let replay = numbers().filter(|n| *n != 5 && !self.replay.contains_key(n));
-        let press = press.map(|n| format!("press {n}"));
-        press.chain(replay.map(|n| format!("replay {n}"))).collect()
+        let mut missing = vec![];
+        for (edition, n) in Edition::ALL
+            .into_iter()
+            .flat_map(|e| numbers().map(move |n| (e, n)))
+        {
+            let by_press = ![10, 15, 16].contains(&n);
+            if by_press && !self.press.contains_key(&(edition, n)) {
+                missing.push(format!("press {} {n}", edition.word()));
+            }
+            if n != 5 && !self.replay.contains_key(&(edition, n)) {
+                missing.push(format!("replay {} {n}", edition.word()));
+            }
+        }
+        missing
     }
 }
 
 /// Every number of a refusal, in the order in which they are tried.
 fn numbers() -> impl Iterator<Item = u32> {
     (1..=5).chain(TRIED).chain([16])
+}
+
+/// What an accepted press was given.
+fn size_events(edition: Edition, sheet: &[u8], rules: &[u8], room: usize) -> Vec<Event> {
+    let records = sheet.len() / edition.record_bytes();
+    let lines = rules.len() / edition.line_bytes();
+    vec![
+        (
+            "press: most records accepted",
+            records == edition.press_records(),
+        ),
+        (
+            "press: room exactly as needed",
+            room == edition.room(records),
+        ),
+        ("press: most rule lines", lines == edition.table_lines()),
+        (
+            "press: an unused line holds v both ways",
+            rules
+                .chunks_exact(edition.line_bytes())
+                .any(|line| Clause::read(line).holds_both_ways()),
+        ),
+    ]
 }
 
 /// What a watched replay showed.

@@ -1,17 +1,17 @@
 //! Cases and their answers as lines of text.
 //!
 //! Each case is a block of lines that ends with an empty line. Words are
-//! separated by single spaces. Byte strings are lower-case hex, `-` if empty;
+//! separated by single spaces. An edition is `narrow` or `wide`. Byte strings are lower-case hex, `-` if empty;
 //! sets are numbers whose bit v is variable v, of 16 hex digits, or 32 in the
 //! wide edition; all else is decimal.
 //!
 //! ```text
-//! press <sheet> <rules> <bytes of room> <bytes of marks>
+//! press <edition> <sheet> <rules> <bytes of room> <bytes of marks>
 //! = ok <positive> <negative> records R nodes N steps S peak P marked M
 //! out <the emitted records>
 //! marks <one byte for each rule line>
 //!
-//! replay <sheet> <rules> <slots>
+//! replay <edition> <sheet> <rules> <slots>
 //! = ok <positive> <negative> nodes N steps S peak P
 //! ```
 //!
@@ -47,7 +47,8 @@ pub fn block(case: &Case, with_trace: bool) -> String {
 }
 
 fn press_block(edition: Edition, sheet: &[u8], rules: &[u8], room: usize, marks: usize) -> String {
-    let question = format!("press {} {} {room} {marks}\n", hex(sheet), hex(rules));
+    let inputs = format!("{} {} {}", edition.word(), hex(sheet), hex(rules));
+    let question = format!("press {inputs} {room} {marks}\n");
     let mut out = vec![0; room];
     let mut marks = vec![0; marks];
     question
@@ -69,7 +70,8 @@ fn replay_block(
     slots: usize,
     with_trace: bool,
 ) -> String {
-    let question = format!("replay {} {} {slots}\n", hex(sheet), hex(rules));
+    let inputs = format!("{} {} {}", edition.word(), hex(sheet), hex(rules));
+    let question = format!("replay {inputs} {slots}\n");
     let mut trace = String::new();
     let mut slots = vec![Slot::default(); slots];
     let answer = replay_watched(edition, sheet, rules, &mut slots, |tally, slots| {

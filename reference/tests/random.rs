@@ -3,7 +3,7 @@
 mod common;
 
 use common::*;
-use reference::cases::{draw, Case, Size};
+use reference::cases::{draw, draw_in, Case, Size};
 use reference::clause::Clause;
 use reference::press::{press, read_proof};
 use reference::replay::Replayed;
@@ -116,16 +116,30 @@ fn large_cases_hold_what_is_promised() {
 
 #[test]
 fn every_refusal_number_occurs() {
-    assert_eq!(gather(13, 3000, Size::Any).missing(), Vec::<String>::new());
+    assert_eq!(gather(13, 6000, Size::Any).missing(), Vec::<String>::new());
 }
 
 #[test]
 fn small_cases_are_small() {
     for index in 0..CASES {
-        let (Case::Press { edition, sheet, .. } | Case::Replay { edition, sheet, .. }) =
-            draw(14, index, Size::Small);
-        assert!(sheet.len() < 21 * edition.record_bytes());
+        for edition in Edition::ALL {
+            let (Case::Press { sheet, .. } | Case::Replay { sheet, .. }) =
+                draw_in(edition, 14, index, Size::Small);
+            assert!(sheet.len() < 21 * edition.record_bytes());
+        }
     }
+}
+
+/// About a third of the cases name the wide edition.
+#[test]
+fn cases_are_of_both_editions() {
+    let is_wide = |index: &u64| {
+        let (Case::Press { edition, .. } | Case::Replay { edition, .. }) =
+            draw(15, *index, Size::Small);
+        edition == Wide
+    };
+    let wide = (0..CASES).filter(is_wide).count() as u64;
+    assert!((CASES * 30 / 100..CASES * 37 / 100).contains(&wide));
 }
 
 #[test]

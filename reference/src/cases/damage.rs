@@ -44,15 +44,16 @@ fn spoil_given(rng: &mut Rng, edition: Edition, bytes: &mut [u8], lines: usize) 
             put_number(bytes, 6, rng.pick(&beyond));
         }
         2 => put_number(bytes, 6, rng.below(lines.max(1))),
-        _ => flip_bit(rng, &mut bytes[SETS..]),
+        _ => spoil_sets(rng, edition, &mut bytes[SETS..]),
     }
 }
 
 fn spoil_step(rng: &mut Rng, edition: Edition, bytes: &mut [u8], record: usize) {
     let side = rng.pick(&[2, 4]);
-    match rng.below(8) {
-        0 => bytes[1] = rng.pick(&[64, 65, 127, 128, 255]),
-        1 => bytes[1] = rng.below(usize::from(edition.variables())) as u8,
+    let most = edition.variables();
+    match rng.below(9) {
+        0 => bytes[1] = rng.pick(&[most, most + 1, 127, 128, 255]),
+        1 => bytes[1] = rng.below(most.into()) as u8,
         2 => {
             let late = [record, record + 1, edition.press_records(), 0xFFFF];
             put_number(bytes, side, rng.pick(&late));
@@ -68,8 +69,21 @@ fn spoil_step(rng: &mut Rng, edition: Edition, bytes: &mut [u8], record: usize) 
             put_number(bytes, 4, left);
         }
         6 => lose_bit(rng, &mut bytes[SETS..]),
-        _ => flip_bit(rng, &mut bytes[SETS..]),
+        // a pivot that only the wide edition has, or the one 64 away
+        7 => bytes[1] ^= 64,
+        _ => spoil_sets(rng, edition, &mut bytes[SETS..]),
     }
+}
+
+/// A literal more or less; in the wide edition also the halves of a set
+/// exchanged.
+fn spoil_sets(rng: &mut Rng, edition: Edition, sets: &mut [u8]) {
+    if edition == Edition::Narrow || rng.chance(60) {
+        return flip_bit(rng, sets);
+    }
+    let set = sets.chunks_exact_mut(edition.set_bytes()).nth(rng.below(2));
+    let (low, high) = set.expect("a record has two sets").split_at_mut(8);
+    low.swap_with_slice(high);
 }
 
 /// A literal lost, if there is one.
@@ -104,9 +118,13 @@ pub fn stir_records(rng: &mut Rng, edition: Edition, sheet: &mut Vec<u8>) {
     }
 }
 
-/// A length that isn't a whole number of pieces of `unit` bytes.
-pub fn make_ragged(rng: &mut Rng, bytes: &mut Vec<u8>, unit: usize) {
-    let change = rng.between(1, unit - 1);
+/// A length that isn't a whole number of pieces of `unit` bytes: one in four is
+/// a whole number of halves.
+fn make_ragged(rng: &mut Rng, bytes: &mut Vec<u8>, unit: usize) {
+    let change = match rng.below(4) {
+        0 => unit / 2,
+        _ => rng.between(1, unit - 1),
+    };
     if bytes.len() >= unit && rng.chance(50) {
         bytes.truncate(bytes.len() - change);
     } else {
@@ -115,8 +133,15 @@ pub fn make_ragged(rng: &mut Rng, bytes: &mut Vec<u8>, unit: usize) {
     }
 }
 
+/// A whole number of records of the other edition.
+fn fit_other(edition: Edition, sheet: &mut Vec<u8>) {
+    let size = edition.other().record_bytes();
+    let count = sheet.len().div_ceil(size);
+    set_count(sheet, size, count);
+}
+
 /// Exactly `count` pieces, by cutting off or by repeating the last piece.
-pub fn set_count(bytes: &mut Vec<u8>, unit: usize, count: usize) {
+fn set_count(bytes: &mut Vec<u8>, unit: usize, count: usize) {
     let last = match bytes.len().checked_sub(unit) {
         Some(at) => bytes[at..].to_vec(),
         None => vec![0; unit],
@@ -125,6 +150,26 @@ pub fn set_count(bytes: &mut Vec<u8>, unit: usize, count: usize) {
         bytes.extend(&last);
     }
     bytes.truncate(count * unit);
+}
+
+/// A sheet that is refused for its length, or that has as many records as may
+/// be. The longest are left out of small cases.
+pub fn spoil_length(
+    rng: &mut Rng,
+    edition: Edition,
+    most: usize,
+    sheet: &mut Vec<u8>,
+    small: bool,
+) {
+    let record = edition.record_bytes();
+    match rng.below(if small { 5 } else { 8 }) {
+        0..=2 => make_ragged(rng, sheet, record),
+        3 => sheet.clear(),
+        4 => fit_other(edition, sheet),
+        5 => set_count(sheet, record, most),
+        6 => set_count(sheet, record, most + 1),
+        _ => set_count(sheet, record, most + 40),
+    }
 }
 
 /// A sheet of noise: either any bytes, or records mostly zero, which get
@@ -139,7 +184,7 @@ pub fn noise(rng: &mut Rng, edition: Edition, count: usize) -> Vec<u8> {
         }
         bytes[0] = rng.pick(&[0, 1, 1, 1, 2, 2, 3, 3, 4]);
         if rng.chance(50) {
-            bytes[rng.below(size)] = rng.pick(&[0, 1, 2, 63, 64, 255]);
+            bytes[rng.below(size)] = rng.pick(&[0, 1, 2, 63, 64, 127, 128, 255]);
         }
     }
     sheet

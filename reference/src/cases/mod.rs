@@ -58,13 +58,31 @@ impl Size {
     }
 }
 
-/// The case of this index under this seed.
+/// The case of this index under this seed. One in three is wide. Now and then a
+/// case names the other edition than the one that its bytes were made for.
 pub fn draw(seed: u64, index: u64, size: Size) -> Case {
     let mut rng = Rng::new(seed, index);
-    let edition = Edition::Narrow;
+    let made_for = match rng.below(3) {
+        0 => Edition::Wide,
+        _ => Edition::Narrow,
+    };
+    let mut case = draw_with(&mut rng, made_for, size);
+    if rng.chance(2) {
+        let (Case::Press { edition, .. } | Case::Replay { edition, .. }) = &mut case;
+        *edition = made_for.other();
+    }
+    case
+}
+
+/// The case of this index under this seed, of this edition.
+pub fn draw_in(edition: Edition, seed: u64, index: u64, size: Size) -> Case {
+    draw_with(&mut Rng::new(seed, index), edition, size)
+}
+
+fn draw_with(rng: &mut Rng, edition: Edition, size: Size) -> Case {
     if rng.chance(50) {
-        press_cases::draw(&mut rng, edition, size)
+        press_cases::draw(rng, edition, size)
     } else {
-        replay_cases::draw(&mut rng, edition, size)
+        replay_cases::draw(rng, edition, size)
     }
 }

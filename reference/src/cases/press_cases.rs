@@ -1,8 +1,6 @@
 //! Cases for the press.
 
-use crate::cases::damage::{
-    make_ragged, noise, set_count, spoil_records, spoil_rule_table, stir_records,
-};
+use crate::cases::damage::{noise, spoil_length, spoil_records, spoil_rule_table, stir_records};
 use crate::cases::{shapes, Case, Size};
 use crate::edition::Edition;
 use crate::rng::Rng;
@@ -29,7 +27,7 @@ pub fn draw(rng: &mut Rng, edition: Edition, size: Size) -> Case {
         spoil_rule_table(rng, edition, &mut rules, small);
     }
     if rng.chance(9) {
-        spoil_length(rng, edition, &mut sheet, small);
+        spoil_length(rng, edition, edition.press_records(), &mut sheet, small);
     }
     let (room, marks) = draw_room(rng, edition, sheet.len(), rules.len());
     Case::Press {
@@ -38,17 +36,6 @@ pub fn draw(rng: &mut Rng, edition: Edition, size: Size) -> Case {
         rules,
         room,
         marks,
-    }
-}
-
-fn spoil_length(rng: &mut Rng, edition: Edition, sheet: &mut Vec<u8>, small: bool) {
-    let (record, most) = (edition.record_bytes(), edition.press_records());
-    match rng.below(if small { 4 } else { 7 }) {
-        0..=2 => make_ragged(rng, sheet, record),
-        3 => sheet.clear(),
-        4 => set_count(sheet, record, most),
-        5 => set_count(sheet, record, most + 1),
-        _ => set_count(sheet, record, most + 40),
     }
 }
 

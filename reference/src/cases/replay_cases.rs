@@ -1,8 +1,6 @@
 //! Cases for the replay.
 
-use crate::cases::damage::{
-    make_ragged, noise, set_count, spoil_records, spoil_rule_table, stir_records,
-};
+use crate::cases::damage::{noise, spoil_length, spoil_records, spoil_rule_table, stir_records};
 use crate::cases::draft::Draft;
 use crate::cases::drop_damage::spoil_drops;
 use crate::cases::{shapes, Case, Size};
@@ -37,7 +35,7 @@ pub fn draw(rng: &mut Rng, edition: Edition, size: Size) -> Case {
         spoil_rule_table(rng, edition, &mut rules, small);
     }
     if rng.chance(9) {
-        spoil_length(rng, edition, &mut sheet, small);
+        spoil_length(rng, edition, edition.replay_records(), &mut sheet, small);
     }
     let slots = draw_slots(rng, edition, &sheet, &rules);
     Case::Replay {
@@ -82,17 +80,6 @@ fn loosely_dropped(rng: &mut Rng, edition: Edition, draft: &Draft) -> Vec<u8> {
         sheet.extend(drops.iter().flat_map(drop));
     }
     sheet
-}
-
-fn spoil_length(rng: &mut Rng, edition: Edition, sheet: &mut Vec<u8>, small: bool) {
-    let (record, most) = (edition.record_bytes(), edition.replay_records());
-    match rng.below(if small { 4 } else { 7 }) {
-        0..=2 => make_ragged(rng, sheet, record),
-        3 => sheet.clear(),
-        4 => set_count(sheet, record, most),
-        5 => set_count(sheet, record, most + 1),
-        _ => set_count(sheet, record, most + 40),
-    }
 }
 
 /// Slots around the number that the sheet needs as far as it is good.

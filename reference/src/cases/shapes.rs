@@ -44,7 +44,12 @@ fn draw_variables(rng: &mut Rng, edition: Edition) -> Vec<u8> {
     let mut all: Vec<u8> = (0..most).collect();
     rng.shuffle(&mut all);
     if rng.chance(30) {
-        all.sort_by_key(|v| !matches!(v, 0 | 7 | 8 | 31 | 32 | 63));
+        all.sort_by_key(|v| !matches!(v % 64, 0 | 7 | 8 | 31 | 32 | 63));
+    }
+    // variables at the same place of the two halves of a wide set
+    if edition == Edition::Wide && rng.chance(30) {
+        let place = all[0] % 64;
+        all.sort_by_key(|v| v % 64 != place);
     }
     all.truncate(count);
     all
