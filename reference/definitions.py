@@ -1,5 +1,6 @@
 #!/usr/bin/env python3
-"""definitions.py [--seed S] [--count N]: has antt compute the definitions of press and replay on random cases of the second program.
+"""definitions.py [--seed S] [--count N] [--edition narrow|wide]: has antt compute the definitions of press and replay on random cases of the
+second program, of both editions if none is named.
 
 Writes a scratch repository (the crates, and one crate more whose statements are the cases) outside the tree and checks it. A case is
 right if the answer, every byte of output and marks, every slot, and the tally and the slots after each record are what the second
@@ -8,6 +9,7 @@ import argparse, pathlib, shutil, subprocess, sys, tempfile
 
 ROOT = pathlib.Path(__file__).resolve().parent.parent
 BATCH = 25
+EDITIONS = ["narrow", "wide"]
 
 
 def numbers(values):
@@ -46,22 +48,23 @@ def trace(lines):
 def case(block):
     words = block[0].split()
     said, refused = answer(block[1].split())
-    sheet, _ = byte_list(words[1])
-    rules, _ = byte_list(words[2])
+    edition = words[1]
+    sheet, _ = byte_list(words[2])
+    rules, _ = byte_list(words[3])
     if words[0] == "press":
-        room, marks = int(words[3]), int(words[4])
+        room, marks = int(words[4]), int(words[5])
         out, wrote = (f"(junk {room})", 0) if refused else byte_list(block[2].split()[1])
         marked, count = (f"(junk {marks})", 0) if refused else byte_list(block[3].split()[1])
         if not refused:
             out = f"({out} ++ junk {room - wrote})"
             marked = f"({marked} ++ junk {marks - count})"
-        return f"right (presses {sheet} {rules} {room} {marks} {numbers(said)} {out} {marked})"
-    slots = int(words[3])
+        return f"pressed {edition} {sheet} {rules} {room} {marks} {numbers(said)} {out} {marked}"
+    slots = int(words[4])
     after = "dirty" if refused and said[0] <= 4 else "clean"
-    replayed = f"right (replays {sheet} {rules} {slots} {numbers(said)} ({after} {slots}))"
+    replayed = f"replayed {edition} {sheet} {rules} {slots} {numbers(said)} ({after} {slots})"
     if refused and said[0] <= 4:
         return replayed
-    return f"({replayed} && traced {sheet} {rules} {slots} {numbers(trace(block[2:]))})"
+    return f"({replayed} && traced {edition} {sheet} {rules} {slots} {numbers(trace(block[2:]))})"
 
 
 HEAD = """use Prim.Native.Nat.{ℕ, zero, suc, _/_}
@@ -70,39 +73,50 @@ use mathlib.Core.List.{List, [], _∷_, _++_}
 use lib.Dec.{T}
 use lib.ListN.{length}
 use Rattle.base.specs.Bytes.{bytes, flat}
-use Rattle.sheet.specs.Editions.{narrow, recordBytes}
+use Rattle.sheet.specs.Editions.{Edition, EDITIONS, recordBytes}
 use Rattle.sheet.specs.Fields.{recordAt}
 use Rattle.replay_spec.specs.Step.{State, Turn, goes, stops, turn}
+use Rattle.replay_spec.specs.Slots.{Slot}
+use Rattle.replay_spec.specs.Replay as Replay
 use Rattle.replay_spec.specs.Replay.{start}
+use Rattle.press_spec.specs.Press as Press
 use Rattle.demands.specs.Cases as Cases
-use Rattle.demands.specs.Cases.{presses, replays, right, junk, dirty, clean, slotNumbers, equal}
+use Rattle.demands.specs.Cases.{pressIs, replayIs, junk, dirty, clean, slotNumbers, equal}
 use Rattle.demands.proofs.Computing.{computing}
 """
 
 TRACE = """
+unfoldable pub pressed : Edition → List ℕ → List ℕ → ℕ → ℕ → List ℕ → List ℕ → List ℕ → Bool
+pressed e sheet rules room marks said out marked = pressIs (Press.press e (Press.call sheet rules (junk room) (junk marks))) said out marked
+
+unfoldable pub replayed : Edition → List ℕ → List ℕ → ℕ → List ℕ → List Slot → Bool
+replayed e sheet rules slots said after = replayIs (Replay.replay e sheet rules (dirty slots)) said after
+
 unfoldable pub stateNumbers : State → List ℕ
 stateNumbers s = s .tally .next ∷ s .tally .held ∷ s .tally .peak ∷ s .tally .steps ∷ flat slotNumbers (s .slots)
 
-unfoldable pub states : List ℕ → List ℕ → ℕ → ℕ → State → List ℕ
-states sheet rules zero k s = []
-states sheet rules (suc m) k s =
-    elim (turn narrow rules (recordAt narrow sheet k) s) [ goes t ↦ stateNumbers t ++ states sheet rules m (suc k) t | stops why ↦ [] ]
+unfoldable pub states : Edition → List ℕ → List ℕ → ℕ → ℕ → State → List ℕ
+states e sheet rules zero k s = []
+states e sheet rules (suc m) k s =
+    elim (turn e rules (recordAt e sheet k) s) [ goes t ↦ stateNumbers t ++ states e sheet rules m (suc k) t | stops why ↦ [] ]
 
-unfoldable pub traced : List ℕ → List ℕ → ℕ → List ℕ → Bool
-traced sheet rules slots want = equal (states sheet rules (length sheet / recordBytes narrow) 0 (start (dirty slots))) want
+unfoldable pub traced : Edition → List ℕ → List ℕ → ℕ → List ℕ → Bool
+traced e sheet rules slots want = equal (states e sheet rules (length sheet / recordBytes e) 0 (start (dirty slots))) want
 """
 
-OPEN = "unfolding computing Cases.pressSays Cases.replaySays Cases.equal Cases.junk Cases.dirty Cases.clean Cases.slotNumbers Cases.pressIs Cases.replayIs Cases.right"
+OPEN = "unfolding computing Cases.pressSays Cases.replaySays Cases.equal Cases.junk Cases.dirty Cases.clean Cases.slotNumbers Cases.pressIs Cases.replayIs"
 
 
 def main():
     words = argparse.ArgumentParser()
     words.add_argument("--seed", default="1")
     words.add_argument("--count", type=int, default=300)
+    words.add_argument("--edition", choices=EDITIONS)
     args = words.parse_args()
     build = ["cargo", "build", "--quiet", "--release", "--offline", "--manifest-path", str(ROOT / "reference/Cargo.toml")]
     subprocess.run(build, check=True)
     draw = [str(ROOT / "reference/target/release/reference"), "cases", "--seed", args.seed, "--count", str(args.count), "--small", "--trace"]
+    draw += ["--edition", args.edition] if args.edition else []
     blocks = subprocess.run(draw, check=True, capture_output=True, text=True).stdout.strip().split("\n\n")
     cases = [case(block.split("\n")) for block in blocks]
     with tempfile.TemporaryDirectory() as place:
@@ -120,11 +134,13 @@ def main():
         batches = [cases[i : i + BATCH] for i in range(0, len(cases), BATCH)]
         mods = ["Trace"] + [f"Batch{i}" for i in range(len(batches))]
         (specs / "Lib.antt").write_text("".join(f"pub mod {m}\n" for m in mods))
-        (specs / "Trace.antt").write_text(HEAD + TRACE)
+        named = [args.edition] if args.edition else EDITIONS
+        head = HEAD.replace("EDITIONS", ", ".join(named))
+        (specs / "Trace.antt").write_text(head + TRACE)
         for i, batch in enumerate(batches):
-            text = HEAD + "use Rattle.scratch.specs.Trace.{stateNumbers, states, traced}\n"
+            text = head + "use Rattle.scratch.specs.Trace.{pressed, replayed, stateNumbers, states, traced}\n"
             for j, one in enumerate(batch):
-                text += f"\ncase{j} : T ({one})\n{OPEN} stateNumbers states traced\ncase{j} = tt\n"
+                text += f"\ncase{j} : T ({one})\n{OPEN} pressed replayed stateNumbers states traced\ncase{j} = tt\n"
             (specs / f"Batch{i}.antt").write_text(text)
         run = subprocess.run(["rt", "check", "scratch"], cwd=scratch, capture_output=True, text=True)
         if run.returncode != 0:

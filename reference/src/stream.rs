@@ -1,13 +1,15 @@
 //! Cases as a stream of bytes, and what a program that runs them prints.
 //!
-//! A case is ten bytes, then its sheet and its rule table. Byte 0 says what is
-//! run: 0 the press, 1 the replay, 2 the replay shown record by record. Byte 1
-//! is zero. Then come four numbers of two bytes, little-endian: bytes of the
-//! sheet, bytes of the rule table, bytes of room or the number of slots, bytes
-//! of marks or zero.
+//! A case is fourteen bytes, then its sheet and its rule table. Byte 0 says what
+//! is run: 0 the press, 1 the replay, 2 the replay shown record by record. Byte
+//! 1 is the edition: 0 narrow, 1 wide. Then come six numbers of two bytes,
+//! little-endian: bytes of the sheet, bytes of the rule table, bytes of room or
+//! the number of slots, bytes of marks or zero; and how many bytes of the sheet
+//! and of the rule table follow. The rest of each is zero, so that long ones
+//! need few bytes.
 //!
-//! What is printed is, for each case, its number and these four numbers, and
-//! then the answer's line (`text`). After a press come the output and the
+//! What is printed is, for each case, its number, its edition and the first four
+//! numbers, and then the answer's line (`text`). After a press come the output and the
 //! marks, if it is accepted, and whether all that they may not touch is
 //! untouched. Of a replay that is shown, each record has a line: `taken` or
 //! `refused <number> <record>`, and the tally and the slots then. After a
@@ -20,12 +22,27 @@ use crate::press::press;
 use crate::replay::{replay, step, Slot, Tally};
 use crate::text::{hex, pressed_line, refused, replayed_line, trace_line};
 
-/// The most that a program that runs a stream has memory for: a little more
-/// than the limits allow.
-pub const SHEET: usize = 49_176;
-pub const RULES: usize = 16_400;
-pub const ROOM: usize = 49_188;
-pub const MARKS: usize = 1_084;
+/// The most that a program that runs a stream has memory for: a little more than
+/// either edition allows or needs.
+fn most(of: impl Fn(Edition) -> usize) -> usize {
+    Edition::ALL.into_iter().map(of).fold(0, usize::max)
+}
+
+fn most_sheet() -> usize {
+    most(|of| of.record_bytes() * (of.replay_records() + 2))
+}
+
+fn most_rules() -> usize {
+    most(|of| of.line_bytes() * (of.table_lines() + 1))
+}
+
+fn most_room() -> usize {
+    most(|of| of.room(of.press_records()) + 60)
+}
+
+fn most_marks() -> usize {
+    most(|of| of.table_lines() + 60)
+}
 
 /// What output and marks hold before a press.
 const OLD: u8 = 0xA5;
@@ -65,7 +82,13 @@ pub fn random(seed: u64, count: u64) -> Vec<Entry> {
 
 fn fits(case: &Case) -> bool {
     let (sheet, rules, room, marks) = parts(case);
-    sheet.len() <= SHEET && rules.len() <= RULES && room <= ROOM && marks <= MARKS
+    let inputs = sheet.len() <= most_sheet() && rules.len() <= most_rules();
+    inputs && room <= most_room() && marks <= most_marks()
+}
+
+fn edition(case: &Case) -> Edition {
+    let (Case::Press { edition, .. } | Case::Replay { edition, .. }) = case;
+    *edition
 }
 
 /// Sheet, rule table, room or slots, marks or zero.
@@ -87,6 +110,12 @@ fn parts(case: &Case) -> (&[u8], &[u8], usize, usize) {
     }
 }
 
+/// The bytes without the zeros at their end.
+fn stored(bytes: &[u8]) -> &[u8] {
+    let end = bytes.iter().rposition(|&byte| byte != 0);
+    &bytes[..end.map_or(0, |at| at + 1)]
+}
+
 fn bytes(entry: &Entry) -> Vec<u8> {
     let (sheet, rules, room, marks) = parts(&entry.case);
     let kind = match (&entry.case, entry.shown) {
@@ -94,26 +123,31 @@ fn bytes(entry: &Entry) -> Vec<u8> {
         (Case::Replay { .. }, false) => 1,
         (Case::Replay { .. }, true) => 2,
     };
-    let mut bytes = vec![kind, 0];
-    for number in [sheet.len(), rules.len(), room, marks] {
-        bytes.extend((number as u16).to_le_bytes());
+    let mut bytes = vec![kind, edition(&entry.case).number()];
+    let (sheet_stored, rules_stored) = (stored(sheet), stored(rules));
+    let lengths = [sheet.len(), rules.len(), room, marks];
+    for number in [&lengths[..], &[sheet_stored.len(), rules_stored.len()]].concat() {
+        let number = u16::try_from(number).expect("a number of two bytes");
+        bytes.extend(number.to_le_bytes());
     }
-    bytes.extend(sheet);
-    bytes.extend(rules);
+    bytes.extend(sheet_stored);
+    bytes.extend(rules_stored);
     bytes
 }
 
 fn printed(number: usize, entry: &Entry) -> String {
     let (sheet, rules, room, marks) = parts(&entry.case);
+    let edition = edition(&entry.case);
     let (word, answer) = match entry.case {
-        Case::Press { edition, .. } => ("press", pressed(edition, sheet, rules, room, marks)),
-        Case::Replay { edition, .. } => {
+        Case::Press { .. } => ("press", pressed(edition, sheet, rules, room, marks)),
+        Case::Replay { .. } => {
             let answer = replayed(edition, sheet, rules, room, entry.shown);
             ("replay", answer)
         }
     };
     let lengths = format!("{} {} {room} {marks}", sheet.len(), rules.len());
-    format!("case {number} {word} {lengths}\n{answer}")
+    let edition = edition.word();
+    format!("case {number} {edition} {word} {lengths}\n{answer}")
 }
 
 fn pressed(edition: Edition, sheet: &[u8], rules: &[u8], room: usize, marks: usize) -> String {
