@@ -4,10 +4,10 @@
 use reference::stream::{self, Entry, Stream};
 use reference::{tables, worked};
 
-/// The first seed under which 300 cases have every answer that short ones can
+/// The first seed under which 180 cases have every answer that short ones can
 /// have.
-const SEED: u64 = 26;
-const COUNT: u64 = 300;
+const SEED: u64 = 9560;
+const COUNT: u64 = 180;
 
 const BOTH: [u32; 13] = [1, 2, 4, 6, 7, 8, 9, 11, 12, 18, 13, 14, 17];
 
@@ -32,36 +32,56 @@ fn has(text: &str, words: &str, start: &str) -> bool {
 
 /// Both jobs accept, and each refuses by every number that it has, but for 3 in
 /// short cases. Nothing is touched that may not be, and records are shown.
-fn has_every_answer(text: &str) {
+fn has_every_answer(text: &str, edition: &str) -> bool {
     let by = |job: &str, numbers: &[u32]| {
-        assert!(has(text, job, "= ok "));
-        for number in numbers {
-            assert!(has(text, job, &format!("= refused {number} ")));
-        }
+        let job = format!("{edition}{job}");
+        let refused = |n: &u32| has(text, &job, &format!("= refused {n} "));
+        has(text, &job, "= ok ") && numbers.iter().all(refused)
     };
-    by("press", &[&BOTH[..], &[5]].concat());
-    by("replay", &[&BOTH[..], &[10, 15, 16]].concat());
-    assert!(has(text, "press", "untouched") && !has(text, "press", "touched"));
-    assert!(has(text, "replay", "taken ") && has(text, "replay", "refused "));
+    by("press", &[&BOTH[..], &[5]].concat())
+        && by("replay", &[&BOTH[..], &[10, 15, 16]].concat())
+        && (has(text, "press", "untouched") && !has(text, "press", "touched"))
+        && (has(text, "replay", "taken ") && has(text, "replay", "refused "))
 }
 
 #[test]
 fn the_worked_cases_are_committed() {
     let text = committed("cases_worked", &worked::entries()).stdout;
-    has_every_answer(&text);
+    assert!(has_every_answer(&text, "narrow ") && has_every_answer(&text, "wide "));
     // a sheet with as many records as may be, and one with a record more
-    for (most, over) in [
-        ("press 24576 ", "press 24600 "),
-        ("replay 49128 ", "replay 49152 "),
+    for (most, said, over) in [
+        ("narrow press 24576 ", "= ok ", "narrow press 24600 "),
+        ("narrow replay 49128 ", "= ok ", "narrow replay 49152 "),
+        ("wide press 20480 ", "= ok ", "wide press 20520 "),
+        ("wide replay 40920 ", "= refused 6 0", "wide replay 40960 "),
     ] {
-        assert!(has(&text, most, "= ok ") && has(&text, over, "= refused 3 0"));
+        assert!(has(&text, most, said) && has(&text, over, "= refused 3 0"));
     }
+}
+
+/// Random cases have every answer, and in the wide edition those that read its
+/// numbers, but for 3.
+fn random_have(text: &str) -> bool {
+    let of_both = |number: u32| {
+        let mut jobs = ["wide press", "wide replay"].into_iter();
+        jobs.any(|job| has(text, job, &format!("= refused {number} ")))
+    };
+    let accepts = has(text, "wide press", "= ok ") && has(text, "wide replay", "= ok ");
+    accepts && [1, 4, 5, 8].into_iter().all(of_both) && has_every_answer(text, "")
 }
 
 #[test]
 fn the_random_cases_are_committed() {
     let entries = stream::random(SEED, COUNT);
-    has_every_answer(&committed("cases_random", &entries).stdout);
+    assert!(random_have(&committed("cases_random", &entries).stdout));
+}
+
+/// Prints the first seed that will do, for when the cases change.
+#[test]
+#[ignore]
+fn find_a_seed() {
+    let seed = (1..).find(|&seed| random_have(&stream::of(&stream::random(seed, COUNT)).stdout));
+    println!("seed {}", seed.expect("there is one"));
 }
 
 #[test]

@@ -1,11 +1,12 @@
 //! Sheets written by hand, each once: clauses and records in short words, the
 //! sheets of document 01 (`starred`) and sheets for sentences that those do not
-//! tell apart (`telling`). The tests, the streams of cases, the tables of the
+//! tell apart (`telling`), and sheets of the wide edition (`wide`). The tests, the streams of cases, the tables of the
 //! definitions (`tables`), the tests of the built program and the harness all
 //! take them from here.
 
 pub mod starred;
 pub mod telling;
+pub mod wide;
 
 use crate::clause::{Clause, Literal};
 use crate::edition::Edition;

@@ -50,26 +50,38 @@ pub fn limits(edition: Edition) -> Vec<Entry> {
     let (pair_sheet, pair_rules) = pair().in_edition(edition).bytes();
     let table = rules(edition, &["+0"]);
     let givens = |count: usize| sheet(edition, &vec![given(0, "+0"); count]);
+    // what is refused by its length needs no records
+    let zeros = |count: usize| vec![0; count * edition.record_bytes()];
+    let lines = |count: usize| {
+        let idle = vec![0; (count - 2) * edition.line_bytes()];
+        [pair_rules.clone(), idle].concat()
+    };
     let (most, longest) = (edition.press_records(), edition.replay_records());
     let (room, table_lines) = (edition.room(3), edition.table_lines());
-    let idle = vec![0; (table_lines - 1) * edition.line_bytes()];
-    let lines = [pair_rules.clone(), idle].concat();
     let ample = edition.room(most) + 60;
+    // the wide one would be long: that a record answers shows that 3 doesn't
+    let replayed = match edition {
+        Edition::Narrow => givens(longest),
+        Edition::Wide => zeros(longest),
+    };
     let press_in =
         |sheet: &[u8], rules: &[u8], room, marks| press_in(edition, sheet, rules, room, marks);
     vec![
         // as many as may be are not refused by 3, one more is, with a table
         // that is 4; so for the replay
         press(edition, &givens(most), &table),
-        press_in(&givens(most + 1), &table[1..], ample, 8),
-        long_replay(edition, &givens(longest), &table, longest),
-        long_replay(edition, &givens(longest + 1), &table[1..], longest + 1),
+        press_in(&zeros(most + 1), &table[1..], ample, 8),
+        long_replay(edition, &replayed, &table, longest),
+        long_replay(edition, &zeros(longest + 1), &table[1..], longest + 1),
+        // 1 comes before 3
+        press_in(&zeros(most + 1)[1..], &table[1..], ample, 8),
         // for three records, room of 120 bytes is enough, 119 is 5
         press_in(&pair_sheet, &pair_rules, room, 2),
         press_in(&pair_sheet, &pair_rules, room - 1, 2),
         // a mark for each rule line is enough, one less is 5
         press_in(&pair_sheet, &pair_rules, room, 1),
-        // 4: one rule line too many
-        press_in(&pair_sheet, &lines, room, table_lines + 60),
+        // 1,024 lines are not refused by 4, 1,025 are
+        press(edition, &pair_sheet, &lines(table_lines)),
+        press_in(&pair_sheet, &lines(table_lines + 1), room, table_lines + 60),
     ]
 }

@@ -4,6 +4,7 @@
 mod listed;
 mod passes;
 mod records;
+mod wide;
 
 use crate::cases::Case;
 use crate::edition::Edition;
@@ -12,18 +13,34 @@ use crate::sheets::{sheet, Worked};
 use crate::stream::Entry;
 
 pub fn entries() -> Vec<Entry> {
-    of_both(Edition::Narrow)
+    let both = Edition::ALL.into_iter().flat_map(of_both);
+    both.chain(wide::entries()).collect()
 }
 
-/// The cases that both editions have.
+/// Of these replays only the answers are shown.
+fn unshown(entries: Vec<Entry>) -> Vec<Entry> {
+    let hide = |entry| Entry {
+        shown: false,
+        ..entry
+    };
+    entries.into_iter().map(hide).collect()
+}
+
+/// The cases that both editions have. Of the many sheets with one byte changed
+/// not all are shown, so that the stream stays short.
 fn of_both(edition: Edition) -> Vec<Entry> {
+    let fields = records::fields(edition);
     [
         listed::presses(edition),
         listed::replays(edition),
         listed::pivot_and_forward(edition),
         listed::limits(edition),
         records::lengths(edition),
-        records::fields(edition),
+        match edition {
+            Edition::Narrow => fields,
+            Edition::Wide => unshown(fields),
+        },
+        unshown(records::bytes_of_a_drop(edition)),
         records::full_row(edition),
         records::results(edition),
         records::rule_lines(edition),
@@ -31,7 +48,6 @@ fn of_both(edition: Edition) -> Vec<Entry> {
         records::drops(edition),
         records::ends(edition),
         records::drops_for_the_press(edition),
-        records::bytes_of_a_drop(edition),
         passes::slips(edition),
         passes::stand_ins(edition),
         passes::orders(edition),

@@ -41,9 +41,7 @@ pub fn lengths(edition: Edition) -> Vec<Entry> {
 /// "The first bad record answers", with the first number that applies.
 pub fn fields(edition: Edition) -> Vec<Entry> {
     let table = pair().in_edition(edition).table();
-    // the last byte of the positive set, and of the negative one
-    let positive_end = SETS + edition.set_bytes() - 1;
-    let negative_end = edition.record_bytes() - 1;
+    let [positive_end, negative_end] = [1, 2].map(|n| SETS + n * edition.set_bytes() - 1);
     let spoilt: [&[(usize, usize, u8)]; 25] = [
         // 6: kinds 0, 4 and 255
         &[(1, 0, 0)],
@@ -57,9 +55,8 @@ pub fn fields(edition: Edition) -> Vec<Entry> {
         &[(1, 5, 1)],
         &[(2, 6, 1)],
         &[(2, 7, 1)],
-        // 8
+        // 8; 11: +p missing on the left, -p on the right
         &[(2, 1, 255)],
-        // 11: +p missing on the left, -p on the right
         &[(2, 1, 1)],
         &[(2, 2, 1)],
         &[(2, 4, 0)],
