@@ -11,7 +11,7 @@ int main(void) {
     };
     uint8_t out[48 * 3 - 24], marks[2];
     uint64_t report[TEMPUQUILE_PRESS_WORDS];
-    uint32_t code = tempuquile_press(sheet, sizeof sheet, rules, sizeof rules, out, sizeof out, marks, sizeof marks, report,
+    uint32_t code = tempuquile_press(TEMPUQUILE_NARROW, sheet, sizeof sheet, rules, sizeof rules, out, sizeof out, marks, sizeof marks, report,
                                      TEMPUQUILE_PRESS_WORDS);
     if (code != TEMPUQUILE_OK) {
         printf("refused %u at %u\n", (unsigned)code, (unsigned)report[TEMPUQUILE_PRESS_RECORD]);
@@ -24,7 +24,7 @@ int main(void) {
 
     tempuquile_slot slots[3];
     for (size_t n = 3; n >= 2; n--) {
-        code = tempuquile_replay(out, 24 * records, rules, sizeof rules, slots, n, report, TEMPUQUILE_REPLAY_WORDS);
+        code = tempuquile_replay(TEMPUQUILE_NARROW, out, 24 * records, rules, sizeof rules, slots, n, report, TEMPUQUILE_REPLAY_WORDS);
         printf("%u slots: %u at %u, peak %u\n", (unsigned)n, (unsigned)code, (unsigned)report[TEMPUQUILE_REPLAY_RECORD],
                (unsigned)report[TEMPUQUILE_REPLAY_PEAK]);
     }

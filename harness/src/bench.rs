@@ -3,7 +3,7 @@
 
 use crate::library::{self, Slot, PRESS_WORDS, REPLAY_WORDS};
 use crate::sheets::{self, Sheet};
-use reference::lengths::{room_needed, LINE};
+use reference::edition::Edition;
 use std::hint::black_box;
 use std::process::Command;
 use std::time::{Duration, Instant};
@@ -35,14 +35,16 @@ fn call(side: Side, job: Job, sheet: &Sheet, calls: u64) {
 }
 
 fn press(side: Side, sheet: &Sheet, calls: u64) {
-    let mut out = vec![0; room_needed(sheet.records())];
-    let mut marks = vec![0; sheet.rules.len() / LINE];
+    let edition = sheet.edition;
+    let mut out = vec![0; edition.room(sheet.records())];
+    let mut marks = vec![0; sheet.lines()];
     let mut report = [0; PRESS_WORDS];
     for _ in 0..calls {
         let (bytes, rules) = (black_box(&sheet.sheet), black_box(&sheet.rules));
         match side {
             Side::Library => {
                 black_box(library::press(
+                    edition.number().into(),
                     bytes,
                     rules,
                     &mut out,
@@ -51,7 +53,7 @@ fn press(side: Side, sheet: &Sheet, calls: u64) {
                 ));
             }
             Side::Reference => {
-                let answer = reference::press::press(bytes, rules, &mut out, &mut marks);
+                let answer = reference::press::press(edition, bytes, rules, &mut out, &mut marks);
                 black_box(answer).expect("drafts are good");
             }
         }
@@ -59,6 +61,7 @@ fn press(side: Side, sheet: &Sheet, calls: u64) {
 }
 
 fn replay(side: Side, sheet: &Sheet, calls: u64) {
+    let edition = sheet.edition;
     let mut slots = vec![Slot::default(); sheet.pressed.peak];
     let mut their_slots = vec![reference::replay::Slot::default(); sheet.pressed.peak];
     let mut report = [0; REPLAY_WORDS];
@@ -66,10 +69,17 @@ fn replay(side: Side, sheet: &Sheet, calls: u64) {
         let (bytes, rules) = (black_box(&sheet.out), black_box(&sheet.rules));
         match side {
             Side::Library => {
-                black_box(library::replay(bytes, rules, &mut slots, &mut report));
+                let number = edition.number().into();
+                black_box(library::replay(
+                    number,
+                    bytes,
+                    rules,
+                    &mut slots,
+                    &mut report,
+                ));
             }
             Side::Reference => {
-                let answer = reference::replay::replay(bytes, rules, &mut their_slots);
+                let answer = reference::replay::replay(edition, bytes, rules, &mut their_slots);
                 black_box(answer).expect("a pressed sheet is good");
             }
         }
@@ -84,10 +94,17 @@ pub fn calls(side: &str, job: &str, name: &str, calls: u64) -> Option<()> {
     Some(())
 }
 
-/// The tables, line by line.
+/// The tables of both editions, line by line.
 pub fn tables(print: impl Fn(&str)) {
-    let sheets = sheets::all();
-    let growing = sheets::growing();
+    for edition in Edition::ALL {
+        print(edition.word());
+        tables_of(edition, &print);
+    }
+}
+
+fn tables_of(edition: Edition, print: impl Fn(&str)) {
+    let sheets = sheets::all(edition);
+    let growing = sheets::growing(edition);
     print(&heading("ns"));
     for (job, word) in JOBS {
         for sheet in &sheets {
@@ -121,7 +138,7 @@ fn growth(
     measure: impl Fn(&Sheet) -> f64,
 ) {
     print(&format!(
-        "{unit:7} {:12} {:>4} {:>14} {:>11} {:>6}",
+        "{unit:7} {:17} {:>4} {:>14} {:>11} {:>6}",
         "growth", "in", "library", "per record", "times"
     ));
     for shape in growing {
@@ -131,7 +148,7 @@ fn growth(
             let each = taken / sheet.records() as f64;
             let times = before.map_or(String::new(), |before| format!("{:.2}", taken / before));
             print(&format!(
-                "press   {:12} {:>4} {taken:>14.0} {each:>11.0} {times:>6}",
+                "press   {:17} {:>4} {taken:>14.0} {each:>11.0} {times:>6}",
                 sheet.name,
                 sheet.records()
             ));
@@ -142,7 +159,7 @@ fn growth(
 
 fn heading(unit: &str) -> String {
     format!(
-        "{unit:7} {:8} {:>4} {:>4} {:>5} {:>4} {:>14} {:>14} {:>6}",
+        "{unit:7} {:13} {:>4} {:>4} {:>5} {:>4} {:>14} {:>14} {:>6}",
         "sheet", "in", "out", "steps", "peak", "library", "reference", "ratio"
     )
 }
@@ -150,7 +167,7 @@ fn heading(unit: &str) -> String {
 fn line(job: &str, sheet: &Sheet, [ours, theirs]: [f64; 2]) -> String {
     let done = &sheet.pressed;
     format!(
-        "{job:7} {:8} {:>4} {:>4} {:>5} {:>4} {ours:>14.0} {theirs:>14.0} {:>6.3}",
+        "{job:7} {:13} {:>4} {:>4} {:>5} {:>4} {ours:>14.0} {theirs:>14.0} {:>6.3}",
         sheet.name,
         sheet.records(),
         done.records,

@@ -2,9 +2,9 @@
 //! byte of the memory lent and around it.
 
 use crate::lent::Lent;
-use crate::library::{self, PRESS_WORDS, REPLAY_WORDS};
+use crate::library::{self, NO_EDITION, PRESS_WORDS, REPLAY_WORDS};
 use reference::cases::{draw, Case, Size};
-use reference::lengths::RECORD;
+use reference::edition::Edition;
 use reference::press::{press, Pressed};
 use reference::refusal::Refusal;
 use reference::replay::{replay, Replayed, Slot};
@@ -19,36 +19,55 @@ pub struct Count {
     pub pressed: usize,
     pub replayed: usize,
     pub refused: usize,
+    /// How many of them named the wide edition.
+    pub wide: usize,
+}
+
+/// The two words of a set, the variables under 64 in the first.
+fn halves(set: u128) -> [u64; 2] {
+    [set as u64, (set >> 64) as u64]
 }
 
 /// The words that a press's answer fills a report with.
 pub fn press_words(answer: &Result<Pressed, Refusal>) -> [u64; PRESS_WORDS] {
     match answer {
-        Err(refusal) => [refusal.record as u64, 0, 0, 0, 0, 0, 0, 0],
-        Ok(done) => [
-            0,
-            done.positive,
-            done.negative,
-            done.records as u64,
-            done.nodes as u64,
-            done.steps as u64,
-            done.peak as u64,
-            done.marked as u64,
-        ],
+        Err(refusal) => [refusal.record as u64, 0, 0, 0, 0, 0, 0, 0, 0, 0],
+        Ok(done) => {
+            let [positive, positive_high] = halves(done.positive);
+            let [negative, negative_high] = halves(done.negative);
+            [
+                0,
+                positive,
+                negative,
+                done.records as u64,
+                done.nodes as u64,
+                done.steps as u64,
+                done.peak as u64,
+                done.marked as u64,
+                positive_high,
+                negative_high,
+            ]
+        }
     }
 }
 
 pub fn replay_words(answer: &Result<Replayed, Refusal>) -> [u64; REPLAY_WORDS] {
     match answer {
-        Err(refusal) => [refusal.record as u64, 0, 0, 0, 0, 0],
-        Ok(done) => [
-            0,
-            done.positive,
-            done.negative,
-            done.nodes as u64,
-            done.steps as u64,
-            done.peak as u64,
-        ],
+        Err(refusal) => [refusal.record as u64, 0, 0, 0, 0, 0, 0, 0],
+        Ok(done) => {
+            let [positive, positive_high] = halves(done.positive);
+            let [negative, negative_high] = halves(done.negative);
+            [
+                0,
+                positive,
+                negative,
+                done.nodes as u64,
+                done.steps as u64,
+                done.peak as u64,
+                positive_high,
+                negative_high,
+            ]
+        }
     }
 }
 
@@ -84,6 +103,7 @@ fn same_code(ours: u32, theirs: u32) -> Result<(), Difference> {
 /// back if there is one.
 pub fn press_alike(
     rng: &mut Rng,
+    edition: Edition,
     sheet: &[u8],
     rules: &[u8],
     (room, marks): (usize, usize),
@@ -93,21 +113,36 @@ pub fn press_alike(
     let mut marks = Lent::of_bytes(rng, marks);
     let mut report = Lent::of_words(rng, report);
     let (mut their_out, mut their_marks) = (out.clone(), marks.clone());
-    let theirs = press(sheet, rules, their_out.bytes(), their_marks.bytes());
+    let theirs = press(
+        edition,
+        sheet,
+        rules,
+        their_out.bytes(),
+        their_marks.bytes(),
+    );
     let their_report = filled(&report, &press_words(&theirs));
 
-    let ours = library::press(sheet, rules, out.bytes(), marks.bytes(), report.words());
+    let ours = library::press(
+        edition.number().into(),
+        sheet,
+        rules,
+        out.bytes(),
+        marks.bytes(),
+        report.words(),
+    );
     same_code(ours, code(&theirs))?;
     same("the report", &report, &their_report)?;
     same("the output", &out, &their_out)?;
     same("the marks", &marks, &their_marks)?;
     let pressed = theirs.ok();
-    Ok(pressed.map(|done| (out.bytes()[..done.records * RECORD].to_vec(), done)))
+    let length = |done: &Pressed| done.records * edition.record_bytes();
+    Ok(pressed.map(|done| (out.bytes()[..length(&done)].to_vec(), done)))
 }
 
 /// One replay, with a report of this many words.
 pub fn replay_alike(
     rng: &mut Rng,
+    edition: Edition,
     sheet: &[u8],
     rules: &[u8],
     slots: usize,
@@ -116,10 +151,11 @@ pub fn replay_alike(
     let mut row = Lent::of_slots(rng, slots);
     let mut report = Lent::of_words(rng, report);
     let before = row.clone();
-    let theirs = replay(sheet, rules, &mut vec![Slot::default(); slots]);
+    let theirs = replay(edition, sheet, rules, &mut vec![Slot::default(); slots]);
     let their_report = filled(&report, &replay_words(&theirs));
 
-    let ours = library::replay(sheet, rules, row.slots(), report.words());
+    let number = edition.number().into();
+    let ours = library::replay(number, sheet, rules, row.slots(), report.words());
     let their_row = match code(&theirs) {
         1..=4 => before,
         _ => before.with_free_slots(),
@@ -130,14 +166,42 @@ pub fn replay_alike(
     Ok(theirs)
 }
 
+/// Calls with a number that names no edition: it is answered, and nothing is
+/// touched, the report neither.
+pub fn no_edition_alike(
+    rng: &mut Rng,
+    number: u32,
+    sheet: &[u8],
+    rules: &[u8],
+) -> Result<(), Difference> {
+    let mut out = Lent::of_bytes(rng, 2 * sheet.len());
+    let mut marks = Lent::of_bytes(rng, rules.len());
+    let mut row = Lent::of_slots(rng, 3);
+    let mut report = Lent::of_words(rng, PRESS_WORDS);
+    let before = (out.clone(), marks.clone(), row.clone(), report.clone());
+    let pressed = library::press(
+        number,
+        sheet,
+        rules,
+        out.bytes(),
+        marks.bytes(),
+        report.words(),
+    );
+    same_code(pressed, NO_EDITION)?;
+    let replayed = library::replay(number, sheet, rules, row.slots(), report.words());
+    same_code(replayed, NO_EDITION)?;
+    same("the memory lent", &(out, marks, row, report), &before)
+}
+
 /// The pressed output replayed at the peak and one below.
 fn pressed_alike(
     rng: &mut Rng,
+    edition: Edition,
     out: &[u8],
     rules: &[u8],
     done: &Pressed,
 ) -> Result<(), Difference> {
-    let at_peak = replay_alike(rng, out, rules, done.peak, REPLAY_WORDS)?;
+    let at_peak = replay_alike(rng, edition, out, rules, done.peak, REPLAY_WORDS)?;
     let expected = Replayed {
         positive: done.positive,
         negative: done.negative,
@@ -146,7 +210,7 @@ fn pressed_alike(
         peak: done.peak,
     };
     same("the replay at the peak", &at_peak, &Ok(expected))?;
-    let below = replay_alike(rng, out, rules, done.peak - 1, REPLAY_WORDS)?;
+    let below = replay_alike(rng, edition, out, rules, done.peak - 1, REPLAY_WORDS)?;
     same("the replay one below the peak", &code(&below), &15)
 }
 
@@ -155,28 +219,37 @@ fn pressed_alike(
 pub fn case_alike(seed: u64, index: u64, count: &mut Count) -> Result<(), Difference> {
     // not the stream that the case is drawn from
     let mut rng = Rng::new(!seed, index);
-    let words = rng.below(10);
+    let words = rng.below(PRESS_WORDS + 2);
     match draw(seed, index, Size::Any) {
         Case::Press {
+            edition,
             sheet,
             rules,
             room,
             marks,
-        } => match press_alike(&mut rng, &sheet, &rules, (room, marks), words)? {
-            None => count.refused += 1,
-            Some((out, done)) => {
-                pressed_alike(&mut rng, &out, &rules, &done)?;
-                count.pressed += 1;
+        } => {
+            count.wide += usize::from(edition == Edition::Wide);
+            let lent = (room, marks);
+            match press_alike(&mut rng, edition, &sheet, &rules, lent, words)? {
+                None => count.refused += 1,
+                Some((out, done)) => {
+                    pressed_alike(&mut rng, edition, &out, &rules, &done)?;
+                    count.pressed += 1;
+                }
             }
-        },
+        }
         Case::Replay {
+            edition,
             sheet,
             rules,
             slots,
-        } => match replay_alike(&mut rng, &sheet, &rules, slots, words)? {
-            Err(_) => count.refused += 1,
-            Ok(_) => count.replayed += 1,
-        },
+        } => {
+            count.wide += usize::from(edition == Edition::Wide);
+            match replay_alike(&mut rng, edition, &sheet, &rules, slots, words)? {
+                Err(_) => count.refused += 1,
+                Ok(_) => count.replayed += 1,
+            }
+        }
     }
     Ok(())
 }

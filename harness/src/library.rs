@@ -5,6 +5,7 @@ pub mod c {
 
     extern "C" {
         pub fn tempuquile_press(
+            edition: u32,
             sheet: *const u8,
             sheet_len: usize,
             rules: *const u8,
@@ -17,6 +18,7 @@ pub mod c {
             report_len: usize,
         ) -> u32;
         pub fn tempuquile_replay(
+            edition: u32,
             sheet: *const u8,
             sheet_len: usize,
             rules: *const u8,
@@ -29,21 +31,27 @@ pub mod c {
     }
 }
 
-/// `tempuquile_slot`. Any bytes are one.
+/// `tempuquile_slot`. Any bytes are one. A set is two words, the variables under
+/// 64 in the first; a narrow clause has zero in the second.
 #[derive(Clone, Copy, Debug, Default, PartialEq, Eq)]
 #[repr(C)]
 pub struct Slot {
     pub used: u32,
     pub node: u32,
-    pub positive: u64,
-    pub negative: u64,
+    pub positive: [u64; 2],
+    pub negative: [u64; 2],
 }
 
 /// The words of a report: of a press, of a replay.
-pub const PRESS_WORDS: usize = 8;
-pub const REPLAY_WORDS: usize = 6;
+pub const PRESS_WORDS: usize = 10;
+pub const REPLAY_WORDS: usize = 8;
 
+/// `TEMPUQUILE_NO_EDITION`: the answer to a number that names no edition.
+pub const NO_EDITION: u32 = 255;
+
+/// The edition is a number here, so that one that names none can be tried.
 pub fn press(
+    edition: u32,
     sheet: &[u8],
     rules: &[u8],
     out: &mut [u8],
@@ -52,6 +60,7 @@ pub fn press(
 ) -> u32 {
     unsafe {
         c::tempuquile_press(
+            edition,
             sheet.as_ptr(),
             sheet.len(),
             rules.as_ptr(),
@@ -66,9 +75,16 @@ pub fn press(
     }
 }
 
-pub fn replay(sheet: &[u8], rules: &[u8], slots: &mut [Slot], report: &mut [u64]) -> u32 {
+pub fn replay(
+    edition: u32,
+    sheet: &[u8],
+    rules: &[u8],
+    slots: &mut [Slot],
+    report: &mut [u64],
+) -> u32 {
     unsafe {
         c::tempuquile_replay(
+            edition,
             sheet.as_ptr(),
             sheet.len(),
             rules.as_ptr(),

@@ -55,8 +55,8 @@ fn compare(flags: &[&str]) -> Option<bool> {
         }
     }
     println!(
-        "seed {seed}: {} pressed and replayed at the peak and one below, {} replayed, {} refused",
-        seen.pressed, seen.replayed, seen.refused
+        "seed {seed}: {} pressed and replayed at the peak and one below, {} replayed, {} refused; {} wide",
+        seen.pressed, seen.replayed, seen.refused, seen.wide
     );
     println!("{count} compared, {different} different");
     Some(different == 0)

@@ -3,13 +3,14 @@
 use reference::cases::dense::lattice;
 use reference::cases::draft::Draft;
 use reference::clause::{Clause, Literal};
-use reference::lengths::{room_needed, LINE, PRESS_RECORDS, RECORD};
+use reference::edition::Edition;
 use reference::press::{press, Pressed};
 use reference::rng::Rng;
 use reference::sheets::starred;
 
 /// A sheet, its rule table, and what the second program makes of it.
 pub struct Sheet {
+    pub edition: Edition,
     pub name: String,
     pub sheet: Vec<u8>,
     pub rules: Vec<u8>,
@@ -18,12 +19,15 @@ pub struct Sheet {
 }
 
 impl Sheet {
-    fn new(name: &str, (sheet, rules): (Vec<u8>, Vec<u8>)) -> Sheet {
-        let mut out = vec![0; room_needed(sheet.len() / RECORD)];
-        let mut marks = vec![0; rules.len() / LINE];
-        let pressed = press(&sheet, &rules, &mut out, &mut marks).expect("the sheets are good");
-        out.truncate(pressed.records * RECORD);
+    fn new(edition: Edition, name: &str, (sheet, rules): (Vec<u8>, Vec<u8>)) -> Sheet {
+        let record = edition.record_bytes();
+        let mut out = vec![0; edition.room(sheet.len() / record)];
+        let mut marks = vec![0; rules.len() / edition.line_bytes()];
+        let pressed = press(edition, &sheet, &rules, &mut out, &mut marks);
+        let pressed = pressed.expect("the sheets are good");
+        out.truncate(pressed.records * record);
         Sheet {
+            edition,
             name: name.to_string(),
             sheet,
             rules,
@@ -32,50 +36,72 @@ impl Sheet {
         }
     }
 
-    fn of(name: &str, draft: &Draft) -> Sheet {
-        Sheet::new(name, (draft.sheet(), draft.rule_table()))
+    fn of(edition: Edition, name: &str, draft: &Draft) -> Sheet {
+        let bytes = (draft.sheet(edition), draft.rule_table(edition));
+        Sheet::new(edition, name, bytes)
     }
 
     pub fn records(&self) -> usize {
-        self.sheet.len() / RECORD
+        self.sheet.len() / self.edition.record_bytes()
+    }
+
+    pub fn lines(&self) -> usize {
+        self.rules.len() / self.edition.line_bytes()
     }
 }
 
 /// A draft of up to so many records, and of nearly as many.
-type Shape = fn(usize) -> Draft;
+type Shape = fn(Edition, usize) -> Draft;
 
 const SHAPES: [(&str, Shape); 5] = [
-    ("shallow", shallow),
+    ("shallow", |_, size| shallow(size)),
     ("deep", deep),
-    ("chain", chain),
-    ("shared", |size| lattice(&mut Rng::new(1, 1), size)),
+    ("chain", |_, size| chain(size)),
+    ("shared", |edition, size| {
+        lattice(&mut Rng::new(1, 1), edition, size)
+    }),
     ("held", held),
 ];
 
 /// The one of this name: a small one, or a shape, as `shared-64` at a size, or
-/// as long as a sheet can be.
+/// as long as a sheet can be. `wide-shared-64` is in the wide edition.
 pub fn named(name: &str) -> Option<Sheet> {
-    if name == "pair" {
-        return Some(Sheet::new(name, starred::pair().bytes()));
+    let (edition, rest) = match name.strip_prefix("wide-") {
+        Some(rest) => (Edition::Wide, rest),
+        None => (Edition::Narrow, name),
+    };
+    if rest == "pair" {
+        let pair = starred::pair().in_edition(edition);
+        return Some(Sheet::new(edition, name, pair.bytes()));
     }
-    let (word, size) = match name.split_once('-') {
+    let (word, size) = match rest.split_once('-') {
         Some((word, size)) => (word, size.parse().ok()?),
-        None => (name, PRESS_RECORDS),
+        None => (rest, edition.press_records()),
     };
     let (_, shape) = SHAPES.into_iter().find(|(known, _)| *known == word)?;
-    Some(Sheet::of(name, &shape(size)))
+    Some(Sheet::of(edition, name, &shape(edition, size)))
+}
+
+/// What a name has in front in this edition.
+fn prefix(edition: Edition) -> &'static str {
+    match edition {
+        Edition::Narrow => "",
+        Edition::Wide => "wide-",
+    }
 }
 
 /// The small one, and one of each shape.
-pub fn all() -> Vec<Sheet> {
+pub fn all(edition: Edition) -> Vec<Sheet> {
     let shapes = SHAPES.iter().map(|(name, _)| *name);
-    ["pair"].into_iter().chain(shapes).flat_map(named).collect()
+    let names = ["pair"].into_iter().chain(shapes);
+    let name = |name| format!("{}{name}", prefix(edition));
+    names.flat_map(|word| named(&name(word))).collect()
 }
 
 /// Each shape at five sizes, of which each is twice the one before it.
-pub fn growing() -> Vec<Vec<Sheet>> {
-    let sizes = [16, 8, 4, 2, 1].map(|part| PRESS_RECORDS / part);
-    let at = |name: &str| sizes.map(|size| format!("{name}-{size}"));
+pub fn growing(edition: Edition) -> Vec<Vec<Sheet>> {
+    let sizes = [16, 8, 4, 2, 1].map(|part| edition.press_records() / part);
+    let at = |name: &str| sizes.map(|size| format!("{}{name}-{size}", prefix(edition)));
     let shapes = SHAPES.iter().map(|(name, _)| at(name));
     shapes
         .map(|names| names.iter().flat_map(|name| named(name)).collect())
@@ -108,18 +134,18 @@ fn shallow(size: usize) -> Draft {
 
 /// A draft that begins with a derived clause of so many variables, each both
 /// ways, and the number of its node.
-fn both_ways(variables: u8) -> (Draft, usize) {
+fn both_ways(edition: Edition, variables: u8) -> (Draft, usize) {
     let mut draft = Draft::default();
     let literals = |v| [Literal::Plus(v), Literal::Minus(v)];
     let clause = (0..variables).flat_map(literals).collect();
-    let first = draft.derive(&mut Rng::new(0, 0), &clause);
+    let first = draft.derive(&mut Rng::new(0, 0), edition, &clause);
     (draft, first)
 }
 
 /// A clause resolved with itself again and again: nearly as deep as a sheet can
 /// be.
-fn deep(size: usize) -> Draft {
-    let (mut draft, first) = both_ways(1);
+fn deep(edition: Edition, size: usize) -> Draft {
+    let (mut draft, first) = both_ways(edition, 1);
     for node in first..size - 1 {
         draft.resolve(0, node, node);
     }
@@ -144,8 +170,8 @@ fn chain(size: usize) -> Draft {
 
 /// Nodes that are used again, last made first: a third of them are held at
 /// once, the first one from the start to the end.
-fn held(size: usize) -> Draft {
-    let (mut draft, first) = both_ways(2);
+fn held(edition: Edition, size: usize) -> Draft {
+    let (mut draft, first) = both_ways(edition, 2);
     let mut last = first + size / 3 - 1;
     for node in first..last {
         draft.resolve(0, node, node);

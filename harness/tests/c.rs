@@ -40,10 +40,10 @@ fn the_headers_slot_is_the_harness_slot() {
         (size_of::<Slot>(), align_of::<Slot>()),
         (offset_of!(Slot, used), size_of::<u32>()),
         (offset_of!(Slot, node), size_of::<u32>()),
-        (offset_of!(Slot, positive), size_of::<u64>()),
-        (offset_of!(Slot, negative), size_of::<u64>()),
+        (offset_of!(Slot, positive), size_of::<[u64; 2]>()),
+        (offset_of!(Slot, negative), size_of::<[u64; 2]>()),
     ];
     let ours: String = ours.iter().map(|(a, b)| format!("{a} {b}\n")).collect();
     assert_eq!(run("layout"), ours);
-    assert_eq!(ours, "24 8\n0 4\n4 4\n8 8\n16 8\n");
+    assert_eq!(ours, "40 8\n0 4\n4 4\n8 16\n24 16\n");
 }
