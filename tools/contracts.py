@@ -34,19 +34,24 @@ asks for something, or says of lent memory only what a view of it shows, is list
 VIEWS = r"linksIn|nodesIn|fatesIn|reachesIn|orderIn|judgedIn|take|length"
 
 # The limits of the scope document, and where the code and the definitions give them names.
-LIMITS = re.compile(r"(?<![\w.'])(512|1_?023|1_?024|2_?047|64|24|16)(?![\w'])")
-NAMED = ("sheet/src/limits.rt", "sheet/specs/Editions.antt")
+LIMITS = re.compile(r"(?<![\w.'])(512|1_?023|1_?024|2_?047|128|64|40|32|24|16)(?![\w'])")
+NAMED = ("sheet/src/limits.rt", "sheet/src/narrow.rt", "sheet/src/wide.rt", "sheet/specs/Editions.antt")
 # Other places that may write one of these numbers: the file, what the line has (nothing: any line), and why.
 ALLOWED = [
-    ("clause/specs/Denote.antt", "width = 64", "the digits of a machine word, which is a set; the crate stands below the limits"),
-    ("clause/src/lib.rt", "WIDTH: u8 = 64", "the same in the code"),
+    ("clause/specs/Denote.antt", "word = 64", "the digits of a machine word; the crate stands below the limits"),
+    ("clause/src/lib.rt", "WORD: u8 = 64", "the same in the code"),
     ("sheet/specs/Reasons.antt", "numberOf NotHeld = 16", "the number of a refusal"),
     ("sheet/src/lib.rt", "Reason::NotHeld => 16", "the number of a refusal"),
     ("demands/specs/Starred.antt", "", "worked sheets, byte by byte"),
     ("demands/specs/Telling.antt", "", "worked sheets, byte by byte"),
-    ("demands/specs/Limits.antt", "PressLimit 1024 1025", "the document's own numbers; the proof compares them with the named limit"),
-    ("demands/specs/Limits.antt", "ReplayLimit 2047 2048", "the same for the replay"),
-    ("stdio/src/text.rt", "SET_DIGITS: usize = 16", "the hex digits of a word"),
+    ("demands/specs/Wide.antt", "", "worked sheets, byte by byte"),
+    ("demands/specs/Cases.antt", "needed Narrow n = 48 * n - 24", "the document's own numbers, which the tables compare with what the press asks for"),
+    ("demands/specs/Cases.antt", "needed Wide n = 80 * n - 40", "the same for the wide edition"),
+    ("demands/specs/Limits.antt", "PressLimit Narrow 1024 1025", "the document's own numbers; the proof compares them with the named limit"),
+    ("demands/specs/Limits.antt", "ReplayLimit Narrow 2047 2048", "the same for the replay"),
+    ("demands/specs/Limits.antt", "PressLimit Wide 512 513", "the same for the wide edition"),
+    ("demands/specs/Limits.antt", "ReplayLimit Wide 1023 1024", "the same for its replay"),
+    ("stdio/src/text.rt", "WORD_DIGITS: usize = 16", "the hex digits of a word"),
     ("stdio/src/text.rt", "% 16", "the base of hex digits"),
     ("stdio/src/text.rt", "/ 16", "the base of hex digits"),
 ]
@@ -149,7 +154,7 @@ def retold():
         statement = re.search(rf"^{promise} [^=]*=(.*?)\n\n", demands, re.M | re.S)[1]
         contract = re.search(r"^    ensures \{ λ r\. ⌜(.*)⌝ \}", (CRATES / crate / "src/lib.rt").read_text(), re.M)[1]
         contract = re.sub(r"now \((\w+) \.entry\)", r"\1", re.sub(r"now \((\w+) \.exit\)", r"\1′", contract))
-        for old, new in ((r"\bnarrow\b", "e"), (r"number \.0", "k"), (r"\btally(?=′|\b)", "t")):
+        for old, new in ((r"\bedition\b", "e"), (r"number \.0", "k"), (r"\btally(?=′|\b)", "t")):
             contract = re.sub(old, new, contract)
         words = [re.sub(r"\b[A-Z]\w*\.|[()]", "", text).split() for text in (statement, contract)]
         if words[0] != words[1]:
@@ -194,7 +199,7 @@ def numbers():
                 text = text.replace(what or text, "") if file == where else text
             found = LIMITS.search(text)
             if found:
-                yield f"crates/{where}:{at}: {found[0]} has a name in crates/{NAMED[0]} or crates/{NAMED[1]}"
+                yield f"crates/{where}:{at}: {found[0]} has a name in crates/{' or crates/'.join(NAMED)}"
 
 
 def main():

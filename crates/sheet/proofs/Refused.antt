@@ -11,7 +11,8 @@ use Rattle.sheet.specs.declared.Reason.{Reason}
 use Rattle.sheet.specs.declared.Reason.the-variants.{Ragged, Empty, Long, Table, Room}
 use Rattle.sheet.specs.declared.Verdict.{Verdict}
 use Rattle.sheet.specs.declared.Verdict.the-variants.{Fine, Refused}
-use Rattle.sheet.specs.Editions.{Edition, recordBytes, lineBytes, tableLines}
+use Rattle.sheet.specs.declared.edition.Edition.{Edition}
+use Rattle.sheet.specs.Editions.{recordBytes, lineBytes, tableLines}
 use Rattle.sheet.specs.Reasons.{unless, andThen}
 use Rattle.sheet.specs.Checks.{checkTable, checkLengths}
 use Rattle.sheet.specs.Refusals.{FirstOf, NoneOf, Lent, LengthApplies, LentRefusedFor, LentFine}

@@ -9,7 +9,8 @@ use lib.ListN.{length, take}
 use Rattle.clause.specs.Clauses.{plus, minus, Literals, none, holds, Within, BothWays, resolvent}
 use Rattle.sheet.specs.declared.Reason.{Reason}
 use Rattle.sheet.specs.declared.Reason.the-variants.{Ragged, Empty, Long, Table, Room, Kind, NotZero, Pivot, NotEarlier, Dropped, PivotMissing, LiteralMissing, LiteralTooMany, NoLine, LineDiffers, SaysNothing, Full, NotHeld}
-use Rattle.sheet.specs.Editions.{Edition, variables, recordBytes, lineBytes, tableLines}
+use Rattle.sheet.specs.declared.edition.Edition.{Edition}
+use Rattle.sheet.specs.Editions.{variables, recordBytes, lineBytes, tableLines}
 use Rattle.sheet.specs.Reasons.{numberOf}
 use Rattle.sheet.specs.Records.{Record, drop, reads}
 use Rattle.sheet.specs.Fields.{Fields, fieldsOf, reading, recordAt, ruleLines, ruleLine}

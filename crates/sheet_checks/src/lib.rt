@@ -1,40 +1,42 @@
 // The checks that press and replay share, each on values, in the order of the scope document.
 ghost use mathlib.Core.Path.{_≡_};
 ghost use Rattle.clause.specs.Denote.{literalsOf};
-ghost use Rattle.sheet.specs.Editions.{narrow};
 ghost use Rattle.sheet.specs.Checks.{checkTable, checkLengths, checkEarlier, checkResult, checkStep, checkOneWay, checkGiven};
 use clause::Clause;
 use sheet::LineNo;
 use sheet::NodeNo;
 use sheet::Reason;
 use sheet::Verdict;
+use sheet::edition::Edition;
 use sheet::limits;
 use sheet_read::lines;
 
-// 4: rule table isn't a multiple of 16, or over 1,024 lines.
-pub fn check_table(rules: usize) -> Verdict
-    ensures { λ r. ⌜ r ≡ checkTable narrow rules ⌝ }
+// 4: rule table isn't a multiple of a line's bytes, or over 1,024 lines.
+pub fn check_table(edition: Edition, rules: usize) -> Verdict
+    ensures { λ r. ⌜ r ≡ checkTable edition rules ⌝ }
 {
-    if rules % limits::LINE_BYTES == 0 && rules / limits::LINE_BYTES <= limits::TABLE_LINES {
+    let bytes = edition.line_bytes();
+    if rules % bytes == 0 && rules / bytes <= limits::TABLE_LINES {
         return Verdict::Fine;
     }
     Verdict::Refused(Reason::Table)
 }
 
 // 1 to 4, of the lengths alone, with the most records that the caller takes.
-pub fn check_lengths(most: usize, sheet: usize, rules: usize) -> Verdict
-    ensures { λ r. ⌜ r ≡ checkLengths narrow most sheet rules ⌝ }
+pub fn check_lengths(edition: Edition, most: usize, sheet: usize, rules: usize) -> Verdict
+    ensures { λ r. ⌜ r ≡ checkLengths edition most sheet rules ⌝ }
 {
-    if sheet % limits::RECORD_BYTES != 0 {
+    let bytes = edition.record_bytes();
+    if sheet % bytes != 0 {
         return Verdict::Refused(Reason::Ragged);
     }
     if sheet == 0 {
         return Verdict::Refused(Reason::Empty);
     }
-    if most < sheet / limits::RECORD_BYTES {
+    if most < sheet / bytes {
         return Verdict::Refused(Reason::Long);
     }
-    check_table(rules)
+    check_table(edition, rules)
 }
 
 // 9: named node isn't earlier.
@@ -81,11 +83,11 @@ fn check_one_way(c: Clause) -> Verdict
 }
 
 // 13: rule line beyond the table. 14: given clause differs from its rule line.
-pub fn check_given(rules: &[u8], line: LineNo, c: Clause) -> Verdict
-    ensures { λ v. ⌜ v ≡ checkGiven narrow (now (rules .entry)) (line .0) (literalsOf c) ⌝ }
+pub fn check_given(edition: Edition, rules: &[u8], line: LineNo, c: Clause) -> Verdict
+    ensures { λ v. ⌜ v ≡ checkGiven edition (now (rules .entry)) (line .0) (literalsOf c) ⌝ }
 {
-    if line.index() < lines::line_count(rules) {
-        if clause::same(c, lines::line_at(rules, line)) {
+    if line.index() < lines::line_count(edition, rules) {
+        if clause::same(c, lines::line_at(edition, rules, line)) {
             return check_one_way(c);
         }
         return Verdict::Refused(Reason::LineDiffers);

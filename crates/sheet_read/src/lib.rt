@@ -2,12 +2,11 @@
 ghost use mathlib.Core.Path.{_≡_};
 ghost use Prim.Native.Nat.{_+_, _≤_};
 ghost use lib.ListN.{length};
-ghost use Rattle.sheet.specs.Editions.{narrow, recordBytes, lineBytes};
+ghost use Rattle.sheet.specs.Editions.{recordBytes, lineBytes};
 ghost use Rattle.sheet.specs.Fields.{clauseAt, fieldsOf, readGiven, readStep, readDrop, readFields, reading};
 ghost use Rattle.sheet.specs.Denote.{fieldsIn, readingOf, verdictOf};
 ghost use Rattle.clause.specs.Denote.{literalsOf};
 use clause::Clause;
-use clause::Set;
 use sheet::Fields;
 use sheet::LineNo;
 use sheet::NodeNo;
@@ -15,24 +14,26 @@ use sheet::Reading;
 use sheet::Reason;
 use sheet::Record;
 use sheet::Verdict;
+use sheet::edition::Edition;
 use sheet::limits;
 
 pub mod lines;
+pub mod sets;
 
 // Two sets, one after the other, as in a rule line.
-pub fn clause_at(b: &[u8], at: usize) -> Clause
-    requires { ⌜ at + lineBytes narrow ≤ length (now b) ⌝ }
-    ensures { λ r. ⌜ literalsOf r ≡ clauseAt narrow (now (b .entry)) at ⌝ }
+pub fn clause_at(edition: Edition, b: &[u8], at: usize) -> Clause
+    requires { ⌜ at + lineBytes edition ≤ length (now b) ⌝ }
+    ensures { λ r. ⌜ literalsOf r ≡ clauseAt edition (now (b .entry)) at ⌝ }
 {
     Clause {
-        positive: Set(base::word_at(b, at)),
-        negative: Set(base::word_at(b, at + limits::SET_BYTES)),
+        positive: sets::set_at(edition, b, at),
+        negative: sets::set_at(edition, b, at + edition.set_bytes()),
     }
 }
 
-fn fields_of(b: &[u8]) -> Fields
-    requires { ⌜ recordBytes narrow ≤ length (now b) ⌝ }
-    ensures { λ r. ⌜ fieldsIn r ≡ fieldsOf narrow (now (b .entry)) ⌝ }
+fn fields_of(edition: Edition, b: &[u8]) -> Fields
+    requires { ⌜ recordBytes edition ≤ length (now b) ⌝ }
+    ensures { λ r. ⌜ fieldsIn r ≡ fieldsOf edition (now (b .entry)) ⌝ }
 {
     Fields {
         kind: b[0],
@@ -40,7 +41,7 @@ fn fields_of(b: &[u8]) -> Fields
         left: base::u16_at(b, 2),
         right: base::u16_at(b, 4),
         line: base::u16_at(b, 6),
-        clause: clause_at(b, limits::POSITIVE_AT),
+        clause: clause_at(edition, b, limits::POSITIVE_AT),
     }
 }
 
@@ -57,14 +58,14 @@ fn read_given(f: Fields) -> Reading
     Reading::Unread(Reason::NotZero)
 }
 
-fn read_step(f: Fields) -> Reading
-    ensures { λ r. ⌜ readingOf r ≡ readStep narrow (fieldsIn f) ⌝ }
+fn read_step(edition: Edition, f: Fields) -> Reading
+    ensures { λ r. ⌜ readingOf r ≡ readStep edition (fieldsIn f) ⌝ }
 {
     let clause = f.clause;
     if f.line != 0 {
         return Reading::Unread(Reason::NotZero);
     }
-    if f.pivot < limits::VARIABLES {
+    if f.pivot < edition.variables() {
         return Reading::Reads(Record::Step {
             pivot: f.pivot,
             left: NodeNo(f.left),
@@ -85,15 +86,15 @@ fn read_drop(f: Fields) -> Reading
     Reading::Unread(Reason::NotZero)
 }
 
-fn read_fields(f: Fields, drops: bool) -> Reading
-    ensures { λ r. ⌜ readingOf r ≡ readFields narrow drops (fieldsIn f) ⌝ }
+fn read_fields(edition: Edition, f: Fields, drops: bool) -> Reading
+    ensures { λ r. ⌜ readingOf r ≡ readFields edition drops (fieldsIn f) ⌝ }
 {
     let kind = f.kind;
     if kind == 1 {
         return read_given(f);
     }
     if kind == 2 {
-        return read_step(f);
+        return read_step(edition, f);
     }
     if kind == 3 && drops {
         return read_drop(f);
@@ -102,11 +103,11 @@ fn read_fields(f: Fields, drops: bool) -> Reading
 }
 
 // How the bytes of a record read; `drops` says whether a drop is a known kind, as it is for the replay.
-pub fn read_record(b: &[u8], drops: bool) -> Reading
-    requires { ⌜ recordBytes narrow ≤ length (now b) ⌝ }
-    ensures { λ r. ⌜ readingOf r ≡ reading narrow drops (now (b .entry)) ⌝ }
+pub fn read_record(edition: Edition, b: &[u8], drops: bool) -> Reading
+    requires { ⌜ recordBytes edition ≤ length (now b) ⌝ }
+    ensures { λ r. ⌜ readingOf r ≡ reading edition drops (now (b .entry)) ⌝ }
 {
-    read_fields(fields_of(b), drops)
+    read_fields(edition, fields_of(edition, b), drops)
 }
 
 // What reading a record says of it, for the else of a `let .. else`, which binds nothing of the other case.

@@ -2,7 +2,7 @@
 // what it writes with the same one.
 ghost use mathlib.Core.Path.{_≡_};
 ghost use Prim.Native.Nat.{_-_, _<_, _≤_};
-ghost use Rattle.sheet.specs.Editions.{narrow, replayRecords};
+ghost use Rattle.sheet.specs.Editions.{mostRecords};
 ghost use Rattle.sheet.specs.Denote.{recordOf};
 ghost use Rattle.tally.specs.Tally.{nothing, withNode, withoutNode, counted};
 ghost use Rattle.tally.specs.Said.{tallyOf};
@@ -36,7 +36,7 @@ pub fn less_one(n: u16) -> u16
 
 // The tally after a node, which is a step or (0) is none.
 fn with_node(t: Tally, steps: u16) -> Tally
-    requires { ⌜ (t .next < replayRecords narrow) × (t .held ≤ t .next) × (t .steps ≤ t .next) × (steps ≤ 1) ⌝ }
+    requires { ⌜ (t .next < mostRecords) × (t .held ≤ t .next) × (t .steps ≤ t .next) × (steps ≤ 1) ⌝ }
     ensures { λ u. ⌜ tallyOf u ≡ withNode steps (tallyOf t) ⌝ }
 {
     let held = t.held + 1;
@@ -61,7 +61,7 @@ fn without_node(t: Tally) -> Tally
 
 // The tally after one record more. Its numbers cannot run over in a run of records that a replay takes.
 pub fn counted(t: Tally, r: Record) -> Tally
-    requires { ⌜ (t .next < replayRecords narrow) × (t .held ≤ t .next) × (t .steps ≤ t .next) ⌝ }
+    requires { ⌜ (t .next < mostRecords) × (t .held ≤ t .next) × (t .steps ≤ t .next) ⌝ }
     ensures { λ u. ⌜ tallyOf u ≡ counted (tallyOf t) (recordOf r) ⌝ }
 {
     match r {

@@ -1,7 +1,6 @@
 use native.Mathlib.Omega.{arith}
 use denote.Ref.{now}
 use borrow.Author.Tests.{lt-ltb, le-ltb}
-use Rattle.sheet.specs.Editions.{narrow}
 use Rattle.sheet.specs.Reasons.{unless}
 use Rattle.sheet.specs.Fields.{ruleLines}
 use Rattle.sheet.specs.Checks.{checkGiven}
@@ -28,21 +27,21 @@ returns : tie.Need-returns
 unfolding checkGiven unless
 returns c =
     let a = c .before .before .before .before .before .before .before .before .args in
-    let inside = lt-ltb (a .line .0) (ruleLines narrow (now (a .rules))) (omega arith) in
+    let inside = lt-ltb (a .line .0) (ruleLines (a .edition) (now (a .rules))) (omega arith) in
     simp (inside, ← c .before .before .before .line-at .ensures, ← c .before .before .same .ensures, c .before .if2 .taken) (c .check-one-way .ensures)
 
 returns-2 : tie.Need-returns-2
 unfolding checkGiven unless
 returns-2 c =
     let a = c .before .before .before .before .before .before .before .args in
-    let inside = lt-ltb (a .line .0) (ruleLines narrow (now (a .rules))) (omega arith) in
+    let inside = lt-ltb (a .line .0) (ruleLines (a .edition) (now (a .rules))) (omega arith) in
     simp (inside, ← c .before .before .line-at .ensures, ← c .before .same .ensures, c .if2 .left)
 
 returns-3 : tie.Need-returns-3
 unfolding checkGiven unless
 returns-3 c =
     let a = c .before .before .before .before .args in
-    simp (le-ltb (a .line .0) (ruleLines narrow (now (a .rules))) (omega arith))
+    simp (le-ltb (a .line .0) (ruleLines (a .edition) (now (a .rules))) (omega arith))
 
 pub check-given-spec : {M : Type 1} → statement M
 check-given-spec =

@@ -1,32 +1,32 @@
+use native.Mathlib.Omega.{arith}
 use lib.ListN.{getD}
 use denote.Ref.{now}
 use Rattle.sheet.specs.Fields.{fields, fieldsOf}
-use borrow.Author.Needs.{needs}
+use Rattle.sheet.proofs.Sizes.{line-size, record-size}
 use Rattle.sheet_read.proofs.fields_of.Statement.{statement}
 use Rattle.sheet_read.proofs.fields_of.Tie as tie
 
-shared-slice-read-t3 : tie.Need-shared-slice-read-t3
-shared-slice-read-t3 c = search needs
+shared-slice-read-t4 : tie.Need-shared-slice-read-t4
+shared-slice-read-t4 c = omega (arith, record-size (c .before .before .args .edition))
 
-shared-slice-read-t5 : tie.Need-shared-slice-read-t5
-shared-slice-read-t5 c = search needs
+shared-slice-read-t6 : tie.Need-shared-slice-read-t6
+shared-slice-read-t6 c = omega (arith, record-size (c .before .before .before .args .edition))
 
 u16-at-requires : tie.Need-u16-at-requires
-u16-at-requires c κs = search needs
+u16-at-requires c κs = omega (arith, record-size (c .before .before .before .args .edition))
 
 u16-at-requires-2 : tie.Need-u16-at-requires-2
-u16-at-requires-2 c κs = search needs
+u16-at-requires-2 c κs = omega (arith, record-size (c .before .before .before .before .args .edition))
 
 u16-at-requires-3 : tie.Need-u16-at-requires-3
-u16-at-requires-3 c κs = search needs
+u16-at-requires-3 c κs = omega (arith, record-size (c .before .before .before .before .before .args .edition))
 
 clause-at-requires : tie.Need-clause-at-requires
-clause-at-requires c κs = search needs
+clause-at-requires c κs = let e = c .before .before .before .before .before .before .args .edition in omega (arith, record-size e, line-size e)
 
 returns : tie.Need-returns
 unfolding fieldsOf
-returns c =
-    let line = c .before in
+returns c = let line = c .before in
     let right = line .before in
     let left = right .before in
     let b = now (left .before .before .before .before .args .b) in
@@ -36,8 +36,8 @@ pub fields-of-spec : {M : Type 1} → statement M
 fields-of-spec =
     tie.close
     (tie.spec
-    shared-slice-read-t3
-    shared-slice-read-t5
+    shared-slice-read-t4
+    shared-slice-read-t6
     u16-at-requires
     u16-at-requires-2
     u16-at-requires-3

@@ -1,5 +1,4 @@
 use mathlib.Core.Path.{ap, _∙_}
-use Rattle.sheet.specs.Editions.{narrow}
 use Rattle.sheet.specs.Fields.{readFields, reading}
 use borrow.Author.Needs.{needs}
 use Rattle.sheet_read.proofs.read_record.Statement.{statement}
@@ -13,7 +12,9 @@ read-fields-requires c κs = search needs
 
 returns : tie.Need-returns
 unfolding reading
-returns c = c .read-fields .ensures ∙ ap (readFields narrow (c .before .before .before .args .drops)) (c .before .fields-of .ensures)
+returns c =
+    let a = c .before .before .before .args in
+    c .read-fields .ensures ∙ ap (readFields (a .edition) (a .drops)) (c .before .fields-of .ensures)
 
 pub read-record-spec : {M : Type 1} → statement M
 read-record-spec = tie.close (tie.spec fields-of-requires read-fields-requires returns)

@@ -1,88 +1,40 @@
-use mathlib.Core.Path.{refl}
-use mathlib.Core.List.{[], _∷_, _++_}
 use Prim.Native.Nat.{_+_}
+use mathlib.Core.Path.{refl}
 use native.Mathlib.Omega.{arith}
 use denote.Ref.{now}
 use Rattle.base.specs.Bytes.{bytes}
 use Rattle.base.proofs.Bytes.{then}
-use Rattle.sheet.specs.Fields.{fieldBytes, clauseBytes}
+use Rattle.clause.specs.Denote.{literalsOf}
+use Rattle.sheet.specs.Fields.{clauseBytes, numberBytes, fieldBytes}
+use Rattle.sheet.specs.Denote.{fieldsIn}
+use Rattle.sheet.proofs.Sizes.{line-size, record-size}
 use borrow.Author.Needs.{needs}
 use Rattle.sheet_write.proofs.put_fields.Statement.{statement}
 use Rattle.sheet_write.proofs.put_fields.Tie as tie
 
-put-pair-requires : tie.Need-put-pair-requires
-put-pair-requires c κs = search needs
+put-numbers-requires : tie.Need-put-numbers-requires
+put-numbers-requires c κs = omega (arith, record-size (c .before .before .args .edition))
 
-add-put-u16 : tie.Need-add-put-u16
-add-put-u16 c = search needs
+add-put-clause : tie.Need-add-put-clause
+add-put-clause c = omega (arith, record-size (c .before .before .before .before .before .before .args .edition))
 
-put-u16-requires : tie.Need-put-u16-requires
-put-u16-requires c κs = search needs
-
-add-put-u16-2 : tie.Need-add-put-u16-2
-add-put-u16-2 c = search needs
-
-put-u16-requires-2 : tie.Need-put-u16-requires-2
-put-u16-requires-2 c κs = search needs
-
-add-put-u16-3 : tie.Need-add-put-u16-3
-add-put-u16-3 c = search needs
-
-put-u16-requires-3 : tie.Need-put-u16-requires-3
-put-u16-requires-3 c κs = search needs
-
-add-put-word : tie.Need-add-put-word
-add-put-word c = search needs
-
-put-word-requires : tie.Need-put-word-requires
-put-word-requires c κs = search needs
-
-add-put-word-2 : tie.Need-add-put-word-2
-add-put-word-2 c = search needs
-
-put-word-requires-2 : tie.Need-put-word-requires-2
-put-word-requires-2 c κs = search needs
+put-clause-requires : tie.Need-put-clause-requires
+put-clause-requires c κs = let numbers = c .before .before .before in
+    let e = numbers .before .before .before .args .edition in
+    omega (arith, record-size e, line-size e, numbers .put-numbers .kept .0)
 
 same-length : tie.Need-same-length
 same-length c = search needs
 
 returns : tie.Need-returns
-unfolding fieldBytes clauseBytes bytes
-returns c =
-    let negative = c .before .before in
-    let positive = negative .before .before .before .before in
-    let line = positive .before .before .before .before in
-    let right = line .before .before .before .before in
-    let left = right .before .before .before .before in
-    let pair = left .before .before .before .before in
-    let a = pair .before .before .before .before .before .args in
-    let f = a .f in
-    let d = now (a .d) in
-    let b2 = f .kind ∷ f .pivot ∷ [] in
-    let b4 = b2 ++ bytes 2 (f .left) in
-    let b6 = b4 ++ bytes 2 (f .right) in
-    let b8 = b6 ++ bytes 2 (f .line) in
-    let b16 = b8 ++ bytes 8 (f .clause .positive .0) in
-    let to4 = then d (a .at) b2 (bytes 2 (f .left)) (a .at + 2) (pair .put-pair .ensures) (left .put-u16 .ensures) refl (omega arith) in
-    let to6 = then d (a .at) b4 (bytes 2 (f .right)) (a .at + 4) to4 (right .put-u162 .ensures) refl (omega arith) in
-    let to8 = then d (a .at) b6 (bytes 2 (f .line)) (a .at + 6) to6 (line .put-u163 .ensures) refl (omega arith) in
-    let to16 = then d (a .at) b8 (bytes 8 (f .clause .positive .0)) (a .at + 8) to8 (positive .put-word .ensures) refl (omega arith) in
-    then d (a .at) b16 (bytes 8 (f .clause .negative .0)) (a .at + 16) to16 (negative .put-word2 .ensures) refl (omega arith)
+unfolding fieldBytes numberBytes bytes
+returns c = let clause = c .before .before in
+    let numbers = clause .before .before .before .before in
+    let a = numbers .before .before .before .args in
+    then (now (a .d)) (a .at) (numberBytes (fieldsIn (a .f))) (clauseBytes (a .edition) (literalsOf (a .f .clause))) (a .at + 8) (numbers .put-numbers .ensures) (clause .put-clause .ensures) refl
+    (omega (arith, record-size (a .edition)))
 
 pub put-fields-spec : {M : Type 1} → statement M
 put-fields-spec =
     tie.close
-    (tie.spec
-    put-pair-requires
-    add-put-u16
-    put-u16-requires
-    add-put-u16-2
-    put-u16-requires-2
-    add-put-u16-3
-    put-u16-requires-3
-    add-put-word
-    put-word-requires
-    add-put-word-2
-    put-word-requires-2
-    same-length
-    returns)
+    (tie.spec put-numbers-requires add-put-clause put-clause-requires same-length returns)
