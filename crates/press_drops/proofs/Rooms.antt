@@ -7,10 +7,11 @@ use native.Mathlib.Omega.{arith}
 use lib.ListN.{length, length-append, drop-of-length-le}
 use lib.ListN.{drop as after}
 use Rattle.base.proofs.Bytes.{length-put}
-use Rattle.sheet.specs.Editions.{narrow, recordBytes}
+use Rattle.sheet.specs.Editions.{recordBytes}
 use Rattle.sheet.specs.Records.{Node, given, step, Record, node, drop, nodeAt}
 use Rattle.sheet.specs.Fields.{recordBytesOf}
 use Rattle.sheet.specs.Counts.{stepOf}
+use Rattle.sheet.proofs.Sizes.{record-whole}
 use Rattle.sheet.proofs.RecordBytes.{length-recordBytesOf}
 use Rattle.press_spec.specs.Links.{leaf, link, links, linkAt}
 use Rattle.press_spec.specs.Drops.{dropsAfter, withDrops}
@@ -25,7 +26,9 @@ use Rattle.press_emit.proofs.Emits.{emitAll-append}
 put-length : (r : Record) (rs : List Record) (e : Emission) → Roomy (r ∷ rs) e → length (emitRecord r e .out) ≡ length (e .out)
 unfolding emitRecord
 put-length r rs e h =
-    length-put (e .out) (recordBytes narrow * e .records) (recordBytesOf narrow r) (omega (arith, h .room, length-recordBytesOf narrow r))
+    let v = e .edition in
+    length-put (e .out) (recordBytes v * e .records) (recordBytesOf v r)
+    (omega (arith, record-whole v (e .records) (length (e .out)) (omega (arith, h .room)), length-recordBytesOf v r))
 
 stepOf-le : (x : Node) → stepOf x ≤ 1
 unfolding stepOf
@@ -36,14 +39,14 @@ pub roomy-next : (r : Record) (rs : List Record) (e : Emission) → Roomy (r ∷
 unfolding emitRecord counted
 roomy-next (node x) rs e h = record {
   few = omega (arith, h .few);
-  room = omega (arith, h .room, put-length (node x) rs e h);
+  room = rw (put-length (node x) rs e h) (omega (arith, h .room));
   next = omega (arith, h .next);
   held = omega (arith, h .held);
   steps = omega (arith, h .steps, stepOf-le x);
 }
 roomy-next (drop n) rs e h = record {
   few = omega (arith, h .few);
-  room = omega (arith, h .room, put-length (drop n) rs e h);
+  room = rw (put-length (drop n) rs e h) (omega (arith, h .room));
   next = omega (arith, h .next);
   held = omega (arith, h .held);
   steps = omega (arith, h .steps);

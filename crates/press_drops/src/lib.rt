@@ -14,6 +14,7 @@ use press_nodes::link::Link;
 use press_nodes::node;
 use sheet::NodeNo;
 use sheet::Record;
+use sheet::edition::Edition;
 use sheet::limits::CAPACITY;
 
 // The drop of n, which node k names, unless a later node names it.
@@ -70,14 +71,21 @@ fn higher(left: NodeNo, right: NodeNo) -> NodeNo
 }
 
 // Fills the table of last uses, which is lent; then each node and the drops after it.
-fn emit_with(links: &[u64], clauses: &[u64], last: &mut [u16], out: &mut [u8]) -> Emitted
+fn emit_with(
+    edition: Edition,
+    links: &[u64],
+    clauses: &[u64],
+    last: &mut [u16],
+    out: &mut [u8],
+) -> Emitted
     requires { ⌜ Nodes (now links) (now clauses) ⌝ }
     requires { ⌜ length (now last) ≡ length (now links) ⌝ }
-    requires { ⌜ Roomy (withDrops (nodesIn (now links) (now clauses))) (unwritten (now out)) ⌝ }
-    ensures { λ f. ⌜ emissionOf (now (out .exit)) f ≡ emitAll (withDrops (nodesIn (now (links .entry)) (now (clauses .entry)))) (unwritten (now (out .entry))) ⌝ }
+    requires { ⌜ Roomy (withDrops (nodesIn (now links) (now clauses))) (unwritten edition (now out)) ⌝ }
+    ensures { λ f. ⌜ emissionOf (now (out .exit)) f ≡ emitAll (withDrops (nodesIn (now (links .entry)) (now (clauses .entry)))) (unwritten edition (now (out .entry))) ⌝ }
 {
     press_last::last_uses(links, last);
     let mut e = Emitted {
+        edition,
         records: 0,
         tally: tally::nothing(),
     };
@@ -90,12 +98,12 @@ fn emit_with(links: &[u64], clauses: &[u64], last: &mut [u16], out: &mut [u8]) -
 }
 
 // Every node in order, with the drops after it.
-pub fn emit_records(links: &[u64], clauses: &[u64], out: &mut [u8]) -> Emitted
+pub fn emit_records(edition: Edition, links: &[u64], clauses: &[u64], out: &mut [u8]) -> Emitted
     requires { ⌜ Nodes (now links) (now clauses) ⌝ }
-    requires { ⌜ Roomy (withDrops (nodesIn (now links) (now clauses))) (unwritten (now out)) ⌝ }
-    ensures { λ f. ⌜ emissionOf (now (out .exit)) f ≡ emitAll (withDrops (nodesIn (now (links .entry)) (now (clauses .entry)))) (unwritten (now (out .entry))) ⌝ }
+    requires { ⌜ Roomy (withDrops (nodesIn (now links) (now clauses))) (unwritten edition (now out)) ⌝ }
+    ensures { λ f. ⌜ emissionOf (now (out .exit)) f ≡ emitAll (withDrops (nodesIn (now (links .entry)) (now (clauses .entry)))) (unwritten edition (now (out .entry))) ⌝ }
 {
     let n = links.len();
     let mut last = [0u16; CAPACITY];
-    emit_with(links, clauses, &mut last[..n], out)
+    emit_with(edition, links, clauses, &mut last[..n], out)
 }

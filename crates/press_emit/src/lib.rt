@@ -5,10 +5,12 @@ ghost use Rattle.sheet.specs.Denote.{recordOf};
 ghost use Rattle.press_emit.specs.Emission.{emissionOf, emitRecord, Roomy};
 use sheet::Record;
 use sheet::RecordNo;
+use sheet::edition::Edition;
 use tally::Tally;
 
-// The records written so far, and the tally of them.
+// The records written so far, in which edition, and the tally of them.
 pub struct Emitted {
+    pub edition: Edition,
     pub records: u16,
     pub tally: Tally,
 }
@@ -18,8 +20,10 @@ pub fn emit_record(out: &mut [u8], e: Emitted, r: Record) -> Emitted
     requires { ⌜ Roomy (recordOf r ∷ []) (emissionOf (now out) e) ⌝ }
     ensures { λ f. ⌜ emissionOf (now (out .exit)) f ≡ emitRecord (recordOf r) (emissionOf (now (out .entry)) e) ⌝ }
 {
-    sheet_write::put_record(out, RecordNo(e.records as usize), r);
+    let edition = e.edition;
+    sheet_write::put_record(edition, out, RecordNo(e.records as usize), r);
     Emitted {
+        edition,
         records: e.records + 1,
         tally: tally::counted(e.tally, r),
     }

@@ -5,7 +5,8 @@ ghost use Prim.Native.Nat.{ℕ, _*_, _/_, _<_, _≤_};
 ghost use mathlib.Core.List.{List};
 ghost use lib.ListN.{length, take};
 ghost use Rattle.clause.specs.Denote.{literalsOf};
-ghost use Rattle.sheet.specs.Editions.{narrow, recordBytes, pressRecords, capacity};
+ghost use Rattle.sheet.specs.declared.edition.Edition.{Edition};
+ghost use Rattle.sheet.specs.Editions.{recordBytes, pressRecords, capacity};
 ghost use Rattle.sheet.specs.Records.{step};
 ghost use Rattle.press_spec.specs.Judge.{sizes, checkRoom, checkPress, checkNode, turn, judge};
 ghost use Rattle.press_judge.specs.Turns.{turnSays, turnStores};
@@ -20,9 +21,7 @@ use sheet::Reason;
 use sheet::Record;
 use sheet::RecordNo;
 use sheet::Verdict;
-use sheet::limits::LINE_BYTES;
-use sheet::limits::PRESS_RECORDS;
-use sheet::limits::RECORD_BYTES;
+use sheet::edition::Edition;
 
 // Every record is as it should be; or the first that is not, and why.
 pub enum Judgement {
@@ -30,28 +29,34 @@ pub enum Judgement {
     Bad(Reason, RecordNo),
 }
 
-// 5: room for output under 48N-24 bytes, or marks shorter than the number of rule lines.
-fn check_room(sheet: usize, rules: usize, out: usize, marks: usize) -> Verdict
-    requires { ⌜ (1 ≤ sheet / recordBytes narrow) × (sheet / recordBytes narrow ≤ pressRecords narrow) ⌝ }
-    ensures { λ v. ⌜ v ≡ checkRoom narrow (sizes sheet rules out marks) ⌝ }
+// 5: room for output under that of 2N-1 records (48N-24 bytes, wide 80N-40), or marks shorter than the number of rule lines.
+fn check_room(edition: Edition, sheet: usize, rules: usize, out: usize, marks: usize) -> Verdict
+    requires { ⌜ (1 ≤ sheet / recordBytes edition) × (sheet / recordBytes edition ≤ pressRecords edition) ⌝ }
+    ensures { λ v. ⌜ v ≡ checkRoom edition (sizes sheet rules out marks) ⌝ }
 {
-    let records = sheet / RECORD_BYTES;
-    let lines = rules / LINE_BYTES;
-    if RECORD_BYTES * (2 * records - 1) <= out && lines <= marks {
+    let most = 2 * edition.records_in(sheet) - 1;
+    let lines = edition.lines_in(rules);
+    if edition.bytes_of(most) <= out && lines <= marks {
         return Verdict::Fine;
     }
     Verdict::Refused(Reason::Room)
 }
 
 // 1 to 5, of the lengths alone.
-pub fn judge_lengths(sheet: usize, rules: usize, out: usize, marks: usize) -> Verdict
-    ensures { λ v. ⌜ v ≡ checkPress narrow (sizes sheet rules out marks) ⌝ }
+pub fn judge_lengths(
+    edition: Edition,
+    sheet: usize,
+    rules: usize,
+    out: usize,
+    marks: usize,
+) -> Verdict
+    ensures { λ v. ⌜ v ≡ checkPress edition (sizes sheet rules out marks) ⌝ }
 {
-    let verdict = sheet_checks::check_lengths(PRESS_RECORDS, sheet, rules);
+    let verdict = sheet_checks::check_lengths(edition, edition.press_records(), sheet, rules);
     let Verdict::Fine = verdict else {
         return verdict;
     };
-    check_room(sheet, rules, out, marks)
+    check_room(edition, sheet, rules, out, marks)
 }
 
 // 9, 11 and 12, of a step after `next` nodes.
@@ -64,7 +69,7 @@ fn check_step(
     written: Clause,
 ) -> Verdict
     requires { ⌜ clauseWords (next .0) ≤ length (now clauses) ⌝ }
-    ensures { λ v. ⌜ ((rules links : List ℕ) → next .0 ≤ length links → v ≡ checkNode narrow rules (take (next .0) (nodesIn links (now (clauses .entry)))) (step pivot (left .0) (right .0) (literalsOf written))) ⌝ }
+    ensures { λ v. ⌜ ((e : Edition) (rules links : List ℕ) → next .0 ≤ length links → v ≡ checkNode e rules (take (next .0) (nodesIn links (now (clauses .entry)))) (step pivot (left .0) (right .0) (literalsOf written))) ⌝ }
 {
     let left_verdict = sheet_checks::check_earlier(next, left);
     let Verdict::Fine = left_verdict else {
@@ -81,22 +86,23 @@ fn check_step(
 
 // Record k: it is judged against the k nodes before it, and stored as node k if it is proper.
 fn judge_turn(
+    edition: Edition,
     bytes: &[u8],
     rules: &[u8],
     links: &mut [u64],
     clauses: &mut [u64],
     k: NodeNo,
 ) -> Verdict
-    requires { ⌜ (length (now clauses) ≡ clauseWords (length (now links))) × (k .0 < length (now links)) × (recordBytes narrow ≤ length (now bytes)) ⌝ }
-    ensures { λ v. ⌜ (v ≡ turnSays (turn narrow (now (rules .entry)) (now (bytes .entry)) (take (k .0) (nodesIn (now (links .entry)) (now (clauses .entry)))))) × (nodesIn (now (links .exit)) (now (clauses .exit)) ≡ turnStores (k .0) (turn narrow (now (rules .entry)) (now (bytes .entry)) (take (k .0) (nodesIn (now (links .entry)) (now (clauses .entry))))) (nodesIn (now (links .entry)) (now (clauses .entry)))) ⌝ }
+    requires { ⌜ (length (now clauses) ≡ clauseWords (length (now links))) × (k .0 < length (now links)) × (recordBytes edition ≤ length (now bytes)) ⌝ }
+    ensures { λ v. ⌜ (v ≡ turnSays (turn edition (now (rules .entry)) (now (bytes .entry)) (take (k .0) (nodesIn (now (links .entry)) (now (clauses .entry)))))) × (nodesIn (now (links .exit)) (now (clauses .exit)) ≡ turnStores (k .0) (turn edition (now (rules .entry)) (now (bytes .entry)) (take (k .0) (nodesIn (now (links .entry)) (now (clauses .entry))))) (nodesIn (now (links .entry)) (now (clauses .entry)))) ⌝ }
 {
-    let reading = sheet_read::read_record(bytes, false);
+    let reading = sheet_read::read_record(edition, bytes, false);
     let Reading::Reads(record) = reading else {
         return sheet_read::verdict_of(reading);
     };
     match record {
         Record::Given { line, clause } => {
-            let verdict = sheet_checks::check_given(rules, line, clause);
+            let verdict = sheet_checks::check_given(edition, rules, line, clause);
             let Verdict::Fine = verdict else {
                 return verdict;
             };
@@ -129,19 +135,25 @@ fn record_of(n: NodeNo) -> RecordNo
 }
 
 // Every record in order: the nodes stand in the tables where all are proper.
-pub fn judge(sheet: &[u8], rules: &[u8], links: &mut [u64], clauses: &mut [u64]) -> Judgement
+pub fn judge(
+    edition: Edition,
+    sheet: &[u8],
+    rules: &[u8],
+    links: &mut [u64],
+    clauses: &mut [u64],
+) -> Judgement
     requires { ⌜ (length (now clauses) ≡ clauseWords (length (now links))) × (length (now links) ≤ capacity) ⌝ }
-    requires { ⌜ length (now sheet) ≡ recordBytes narrow * length (now links) ⌝ }
-    ensures { λ r. ⌜ judgedIn r (nodesIn (now (links .exit)) (now (clauses .exit))) ≡ judge narrow (now (rules .entry)) (now (sheet .entry)) ⌝ }
+    requires { ⌜ length (now sheet) ≡ recordBytes edition * length (now links) ⌝ }
+    ensures { λ r. ⌜ judgedIn r (nodesIn (now (links .exit)) (now (clauses .exit))) ≡ judge edition (now (rules .entry)) (now (sheet .entry)) ⌝ }
 {
     let count = links.len();
     let mut judged = 0;
     while judged < count {
         let next = NodeNo(judged as u16);
         let here = record_of(next);
-        let at = here.start();
-        let end = at + RECORD_BYTES;
-        let verdict = judge_turn(&sheet[at..end], rules, links, clauses, next);
+        let at = edition.start(here);
+        let end = at + edition.record_bytes();
+        let verdict = judge_turn(edition, &sheet[at..end], rules, links, clauses, next);
         match verdict {
             Verdict::Fine => {}
             Verdict::Refused(why) => return Judgement::Bad(why, here),

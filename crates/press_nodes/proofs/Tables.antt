@@ -1,10 +1,10 @@
 -- Laws of the press's tables: what the word of a link says, what stores make of links, clauses and nodes, and where the parents of sound links stand.
 use mathlib.Core.Path.{_≡_, refl, sym, ap, ap₂, _∙_}
 use mathlib.Core.List.{List, [], _∷_}
-use Prim.Native.Nat.{ℕ, zero, suc, _+_, _*_, _/_, _%_, _<_}
+use Prim.Native.Nat.{ℕ, zero, suc, _+_, _*_, _/_, _%_, _^_, _<_}
 use native.Mathlib.Omega.{arith}
 use native.Mathlib.Decide.{ℕ-discrete, decLt}
-use lib.Dec.{eqb, eqb·zero-suc, eqb·suc-zero, eqb·suc-suc}
+use lib.Dec.{eqb·zero-suc, eqb·suc-zero, eqb·suc-suc}
 use lib.ListN.{length, getD, set, take, length-map, length-set, List·getD-map, List·getD-eq-default}
 use lib.Seq.{getD-set-same, getD-set-other}
 use borrow.Author.Tests.{eq-eqb, ne-eqb}
@@ -12,7 +12,7 @@ use Rattle.base.proofs.Lists.{map-set}
 use Rattle.clause.specs.Clauses.{Literals, literals}
 use Rattle.sheet.specs.Records.{given, step, clause, nodeAt}
 use Rattle.press_spec.specs.Links.{Link, leaf, join, link, links, linkAt}
-use Rattle.press_nodes.specs.Tables.{ofOne, ofTwo, pivotAt, leftAt, rightAt, lineAt, linkOf, linksIn, clausesIn, changed, beside, nodeOf, nodesIn, Sound, Links}
+use Rattle.press_nodes.specs.Tables.{ofOne, ofTwo, pivotAt, leftAt, rightAt, lineAt, linkOf, linksIn, setsIn, clausesIn, changed, beside, nodeOf, nodesIn, Sound, Links}
 use Rattle.press_spec.proofs.Nodes.{Falls, Falling}
 
 -- ---- links
@@ -52,21 +52,64 @@ module _ (h : List ℕ) where
 
 -- ---- clauses
 
-pub clauses-put : (t : List ℕ) (i n x y : ℕ) → i ≡ n → suc (2 * n) < length t
-    → clausesIn (set (set t (2 * i) x) (2 * i + 1) y) ≡ changed n (literals x y) (clausesIn t)
-unfolding clausesIn changed
-clauses-put t i n x y e h = λ d m. each m d
+pub changed-there : {A : Type 0} (n m : ℕ) (x : A) (there : ℕ → A) → m ≡ n → changed n x there m ≡ x
+unfolding changed
+changed-there n m x there e = rw (eq-eqb m n e)
+
+pub changed-elsewhere : {A : Type 0} (n m : ℕ) (x : A) (there : ℕ → A) → (m ≡ n → ⊥) → changed n x there m ≡ there m
+unfolding changed
+changed-elsewhere n m x there e = rw (ne-eqb m n e)
+
+pub sets-put : (t : List ℕ) (i x y : ℕ) → 2 * i + 1 < length t → setsIn (set (set t (2 * i) x) (2 * i + 1) y) ≡ changed i (y * 2 ^ 64 + x) (setsIn t)
+unfolding setsIn
+sets-put t i x y h = λ d m. each m d
   where
-    each : (m : ℕ) → clausesIn (set (set t (2 * i) x) (2 * i + 1) y) m ≡ changed n (literals x y) (clausesIn t) m
+    words : (a b a′ b′ : ℕ) → a ≡ a′ → b ≡ b′ → a * 2 ^ 64 + b ≡ a′ * 2 ^ 64 + b′
+    words a b a′ b′ p q = ap₂ (λ (u v : ℕ). u * 2 ^ 64 + v) p q
+
+    each : (m : ℕ) → setsIn (set (set t (2 * i) x) (2 * i + 1) y) m ≡ changed i (y * 2 ^ 64 + x) (setsIn t) m
+    each m = elim (ℕ-discrete m i) [
+      | yes q ↦
+          rw q
+          (words _ _ _ _
+          (getD-set-same (set t (2 * i) x) (2 * i + 1) y 0 (rw (length-set t (2 * i) x) h))
+          (getD-set-other (set t (2 * i) x) (2 * i + 1) (2 * i) y 0 (omega arith) ∙ getD-set-same t (2 * i) x 0 (omega arith))
+          ∙ sym (changed-there i i (y * 2 ^ 64 + x) (setsIn t) refl))
+      | no q ↦
+          words _ _ _ _
+          (getD-set-other (set t (2 * i) x) (2 * i + 1) (2 * m + 1) y 0 (omega arith) ∙ getD-set-other t (2 * i) (2 * m + 1) x 0 (omega arith))
+          (getD-set-other (set t (2 * i) x) (2 * i + 1) (2 * m) y 0 (omega arith) ∙ getD-set-other t (2 * i) (2 * m) x 0 (omega arith))
+          ∙ sym (changed-elsewhere i m (y * 2 ^ 64 + x) (setsIn t) q)
+    ]
+
+-- a clause that is put as two sets, one after the other
+pub clauses-put : (t u v : List ℕ) (n p q : ℕ) → setsIn u ≡ changed (2 * n) p (setsIn t) → setsIn v ≡ changed (2 * n + 1) q (setsIn u)
+    → clausesIn v ≡ changed n (literals p q) (clausesIn t)
+unfolding clausesIn
+clauses-put t u v n p q d e = λ i m. each m i
+  where
+    at-u : (k : ℕ) → setsIn u k ≡ changed (2 * n) p (setsIn t) k
+    at-u k = ap (λ (f : ℕ → ℕ). f k) d
+
+    at-v : (k : ℕ) → setsIn v k ≡ changed (2 * n + 1) q (setsIn u) k
+    at-v k = ap (λ (f : ℕ → ℕ). f k) e
+
+    each : (m : ℕ) → clausesIn v m ≡ changed n (literals p q) (clausesIn t) m
     each m = elim (ℕ-discrete m n) [
-      | yes q ↦ rw (q, e, eq-eqb n n refl)
+      | yes k ↦
+          rw k
           (ap₂ literals
-          (getD-set-other (set t (2 * n) x) (2 * n + 1) (2 * n) y 0 (omega arith) ∙ getD-set-same t (2 * n) x 0 (omega arith))
-          (getD-set-same (set t (2 * n) x) (2 * n + 1) y 0 (rw (length-set t (2 * n) x) (omega arith))))
-      | no q ↦ rw (e, ne-eqb m n q)
-          (ap₂ literals
-          (getD-set-other (set t (2 * n) x) (2 * n + 1) (2 * m) y 0 (omega arith) ∙ getD-set-other t (2 * n) (2 * m) x 0 (omega arith))
-          (getD-set-other (set t (2 * n) x) (2 * n + 1) (2 * m + 1) y 0 (omega arith) ∙ getD-set-other t (2 * n) (2 * m + 1) x 0 (omega arith)))
+          (at-v (2 * n) ∙ changed-elsewhere (2 * n + 1) (2 * n) q (setsIn u) (omega arith) ∙ at-u (2 * n) ∙ changed-there (2 * n) (2 * n) p (setsIn t) refl)
+          (at-v (2 * n + 1) ∙ changed-there (2 * n + 1) (2 * n + 1) q (setsIn u) refl)
+          ∙ sym (changed-there n n (literals p q) (clausesIn t) refl))
+      | no k ↦
+          ap₂ literals
+          (at-v (2 * m) ∙ changed-elsewhere (2 * n + 1) (2 * m) q (setsIn u) (omega arith) ∙ at-u (2 * m) ∙ changed-elsewhere (2 * n) (2 * m) p (setsIn t) (omega arith))
+          (at-v (2 * m + 1)
+          ∙ changed-elsewhere (2 * n + 1) (2 * m + 1) q (setsIn u) (omega arith)
+          ∙ at-u (2 * m + 1)
+          ∙ changed-elsewhere (2 * n) (2 * m + 1) p (setsIn t) (omega arith))
+          ∙ sym (changed-elsewhere n m (literals p q) (clausesIn t) k)
     ]
 
 -- ---- entries beside clauses

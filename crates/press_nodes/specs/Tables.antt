@@ -1,12 +1,12 @@
 -- The press's tables. `links` has a word a node, the first eight bytes of its record as one number; `clauses` has the words of its two sets.
-use Prim.Native.Nat.{ℕ, suc, _+_, _*_, _/_, _%_, _<_, _≤_}
+use Prim.Native.Nat.{ℕ, suc, _+_, _*_, _/_, _%_, _^_, _<_, _≤_}
 use mathlib.Core.Path.{_≡_}
 use mathlib.Core.Bool.{cond}
 use mathlib.Core.List.{List, [], _∷_, map}
 use lib.Dec.{eqb}
 use lib.ListN.{length, getD}
 use Rattle.clause.specs.Clauses.{Literals, literals}
-use Rattle.clause.specs.Denote.{width}
+use Rattle.clause.specs.Denote.{word, width}
 use Rattle.sheet.specs.Editions.{capacity, mostLines}
 use Rattle.sheet.specs.Records.{Node, given, step}
 use Rattle.press_spec.specs.Links.{Link, leaf, join, linkAt}
@@ -57,16 +57,19 @@ pub record Links (links : List ℕ) : Type 0 where
 
 -- ---- clauses
 
--- the words of n clauses
+-- the words of n clauses: a clause is two sets, and a set is two words, the low one first
 abbrev pub clauseWords : ℕ → ℕ
-clauseWords n = 2 * n
+clauseWords n = 4 * n
+
+unfoldable pub setsIn : List ℕ → ℕ → ℕ
+setsIn table i = getD table (2 * i + 1) 0 * 2 ^ word + getD table (2 * i) 0
 
 unfoldable pub clausesIn : List ℕ → ℕ → Literals
-clausesIn table n = literals (getD table (2 * n) 0) (getD table (2 * n + 1) 0)
+clausesIn table n = literals (setsIn table (2 * n)) (setsIn table (2 * n + 1))
 
--- the clause of n is c, the others are as they were
-unfoldable pub changed : ℕ → Literals → (ℕ → Literals) → ℕ → Literals
-changed n c clauses m = cond (eqb m n) c (clauses m)
+-- at n there is x, elsewhere what was there
+unfoldable pub changed : {A : Type 0} → ℕ → A → (ℕ → A) → ℕ → A
+changed n x there m = cond (eqb m n) x (there m)
 
 -- f of each entry of a list and the clause at its place
 unfoldable pub beside : {A B : Type 0} → (A → Literals → B) → List A → (ℕ → Literals) → List B

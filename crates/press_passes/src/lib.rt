@@ -4,7 +4,6 @@ ghost use mathlib.Core.Path.{_≡_};
 ghost use Prim.Native.Nat.{_<_};
 ghost use lib.ListN.{length};
 ghost use Rattle.base.specs.Bytes.{put};
-ghost use Rattle.sheet.specs.Editions.{narrow};
 ghost use Rattle.sheet.specs.Fields.{sheetBytes};
 ghost use Rattle.press_spec.specs.Drops.{withDrops};
 ghost use Rattle.press_spec.specs.Press.{pressed, core, report};
@@ -15,10 +14,12 @@ use press_nodes::clause_table;
 use press_trim::uses;
 use press_write::Pressed;
 use sheet::NodeNo;
+use sheet::edition::Edition;
 use sheet::limits::CAPACITY;
 use sheet::limits::CLAUSE_WORDS;
 
 pub fn run_passes(
+    edition: Edition,
     links: &mut [u64],
     clauses: &mut [u64],
     lines: usize,
@@ -26,9 +27,9 @@ pub fn run_passes(
     marks: &mut [u8],
 ) -> Pressed
     requires { ⌜ Nodes (now links) (now clauses) × (0 < length (now links)) ⌝ }
-    requires { ⌜ Emittable lines (pressed (nodesIn (now links) (now clauses))) (now out) (now marks) ⌝ }
+    requires { ⌜ Emittable edition lines (pressed (nodesIn (now links) (now clauses))) (now out) (now marks) ⌝ }
     ensures report { λ r. ⌜ reported r ≡ report lines (pressed (nodesIn (now (links .entry)) (now (clauses .entry)))) ⌝ }
-    ensures lent { λ _. ⌜ (now (out .exit) ≡ put (now (out .entry)) 0 (sheetBytes narrow (withDrops (pressed (nodesIn (now (links .entry)) (now (clauses .entry))))))) × (now (marks .exit) ≡ put (now (marks .entry)) 0 (core lines (pressed (nodesIn (now (links .entry)) (now (clauses .entry)))))) ⌝ }
+    ensures lent { λ _. ⌜ (now (out .exit) ≡ put (now (out .entry)) 0 (sheetBytes edition (withDrops (pressed (nodesIn (now (links .entry)) (now (clauses .entry))))))) × (now (marks .exit) ≡ put (now (marks .entry)) 0 (core lines (pressed (nodesIn (now (links .entry)) (now (clauses .entry)))))) ⌝ }
 {
     let n = links.len();
     let sink = NodeNo((n - 1) as u16);
@@ -43,14 +44,14 @@ pub fn run_passes(
     let mut numbers = [0u16; CAPACITY];
     let kept = press_order::order_from(links, from, &mut numbers[..n]) as usize;
     let words = clause_table::words_for(kept);
-    let mut new_links = [0u64; CAPACITY];
-    let mut new_clauses = [0u64; CLAUSE_WORDS];
+    let mut laid = [0u64; CAPACITY];
+    let mut sets = [0u64; CLAUSE_WORDS];
     press_lay::lay(
         links,
         clauses,
         &numbers[..n],
-        &mut new_links[..kept],
-        &mut new_clauses[..words],
+        &mut laid[..kept],
+        &mut sets[..words],
     );
-    press_write::write(&new_links[..kept], &new_clauses[..words], lines, out, marks)
+    press_write::write(edition, &laid[..kept], &sets[..words], lines, out, marks)
 }

@@ -12,12 +12,14 @@ use Rattle.base.specs.Bytes.{put}
 use Rattle.sheet.specs.declared.Reason.the-variants.{Room}
 use Rattle.sheet.specs.declared.Verdict.{Verdict}
 use Rattle.sheet.specs.declared.Verdict.the-variants.{Fine, Refused}
-use Rattle.sheet.specs.Editions.{Edition, narrow, recordBytes, lineBytes, pressRecords}
+use Rattle.sheet.specs.declared.edition.Edition.{Edition}
+use Rattle.sheet.specs.Editions.{recordBytes, lineBytes, pressRecords}
 use Rattle.sheet.specs.Records.{Node, given, step, Record, node, drop, clause, nodeAt}
 use Rattle.sheet.specs.Fields.{recordAt, sheetBytes, ruleLines}
 use Rattle.sheet.specs.Fitting.{Known}
 use Rattle.sheet.specs.Counts.{nodesOf, stepsOf, peakFrom}
 use Rattle.sheet.specs.Proper.{recordIn, clauseIn, Held, ProperAfter, ReadsAs, Proper}
+use Rattle.sheet.proofs.Sizes.{record-count}
 use Rattle.sheet.proofs.Reasons.{unless-fine, fine-unless, andThen-fine, fine-andThen}
 use Rattle.sheet.proofs.RecordBytes.{PivotBelow, reads-pivot, reading-known}
 use Rattle.sheet.proofs.Fine.{Lengths, lengths-fine, fine-lengths}
@@ -119,9 +121,6 @@ Roomy e n z = (recordBytes e * (2 * n - 1) ≤ z .out) × (z .rules / lineBytes 
 -- what has these lengths can be pressed, if its n records are proper
 abbrev pub Enough : Edition → Sizes → ℕ → Type 0
 Enough e z n = Lengths e (pressRecords e) (z .sheet) (z .rules) n × Roomy e n z
-
-record-count : (e : Edition) (sheet n : ℕ) → sheet ≡ recordBytes e * n → sheet / recordBytes e ≡ n
-record-count narrow sheet n q = omega arith
 
 pub press-fine : (e : Edition) (z : Sizes) → checkPress e z ≡ Fine → Enough e z (z .sheet / recordBytes e)
 unfolding checkPress checkRoom

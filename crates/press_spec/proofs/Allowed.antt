@@ -8,7 +8,7 @@ use mathlib.Core.List.{List}
 use native.Mathlib.Omega.{arith}
 use lib.ListN.{length, length-map}
 use Rattle.clause.specs.Clauses.{Literal, Literals, plus, minus, holds, adding, resolvent, Within}
-use Rattle.sheet.specs.Editions.{Edition}
+use Rattle.sheet.specs.declared.edition.Edition.{Edition}
 use Rattle.sheet.specs.Records.{Node, given, step, clause, nodeAt}
 use Rattle.press_spec.specs.Links.{Link, leaf, join, link, links, linkAt}
 use Rattle.press_spec.specs.Recycle.{Cut, cutLeft, cutRight, uncut, Fate, kept}

@@ -4,7 +4,8 @@ use mathlib.Core.List.{List}
 use native.Mathlib.Omega.{arith}
 use lib.ListN.{length, getD}
 use Rattle.clause.proofs.Clauses.{below-resolvent}
-use Rattle.sheet.specs.Editions.{Edition, variables}
+use Rattle.sheet.specs.declared.edition.Edition.{Edition}
+use Rattle.sheet.specs.Editions.{variables}
 use Rattle.sheet.specs.Records.{Node, given, step, node, clause, nodeAt}
 use Rattle.sheet.specs.Fields.{ruleLines}
 use Rattle.sheet.specs.Fitting.{Fits, Fitting}

@@ -10,7 +10,8 @@ use lib.Seq.{length-take-le, take-suc, take-length, getD-take}
 use Rattle.sheet.specs.declared.Reason.{Reason}
 use Rattle.sheet.specs.declared.Verdict.{Verdict}
 use Rattle.sheet.specs.declared.Verdict.the-variants.{Fine, Refused}
-use Rattle.sheet.specs.Editions.{Edition, recordBytes}
+use Rattle.sheet.specs.declared.edition.Edition.{Edition}
+use Rattle.sheet.specs.Editions.{recordBytes}
 use Rattle.sheet.specs.Records.{Node, given, step, node, drop, Reading, reads, unread, clause, nodeAt}
 use Rattle.sheet.specs.Fields.{reading, recordAt}
 use Rattle.press_spec.specs.Judge.{checkNode, Turn, goes, stops, byVerdict, byReading, turn, proper, bad, judgeFrom, judge}

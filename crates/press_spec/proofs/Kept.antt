@@ -6,7 +6,7 @@ use mathlib.Core.List.{List}
 use native.Mathlib.Omega.{arith}
 use lib.ListN.{length, length-map}
 use Rattle.clause.specs.Clauses.{Literals, none, Within}
-use Rattle.sheet.specs.Editions.{Edition}
+use Rattle.sheet.specs.declared.edition.Edition.{Edition}
 use Rattle.sheet.specs.Records.{Node, clause, nodeAt}
 use Rattle.press_spec.specs.Links.{link, links, sink, Parents}
 use Rattle.press_spec.specs.Trim.{usesFrom}

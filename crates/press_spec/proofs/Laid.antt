@@ -10,7 +10,7 @@ use lib.ListN.{length}
 use lib.Seq.{ext-getD}
 use borrow.Author.Tests.{eq-eqb, ne-eqb}
 use Rattle.clause.specs.Clauses.{none}
-use Rattle.sheet.specs.Editions.{Edition}
+use Rattle.sheet.specs.declared.edition.Edition.{Edition}
 use Rattle.sheet.specs.Records.{Node, given, step, clause, nodeAt}
 use Rattle.sheet.specs.Counts.{stepOf, stepsOf}
 use Rattle.press_spec.specs.Links.{Link, leaf, join, link, links, sink, Parents}

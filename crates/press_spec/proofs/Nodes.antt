@@ -8,7 +8,7 @@ use lib.ListN.{length, drop, length-append, List·getD-append, List·getD-eq-def
 use lib.Seq.{getD-append-seam}
 use Rattle.base.proofs.Lists.{drop-more}
 use Rattle.clause.specs.Clauses.{none}
-use Rattle.sheet.specs.Editions.{Edition}
+use Rattle.sheet.specs.declared.edition.Edition.{Edition}
 use Rattle.sheet.specs.Records.{Node, given, step, nodeAt}
 use Rattle.sheet.specs.Counts.{stepOf, stepsOf}
 use Rattle.press_spec.specs.Links.{Link, leaf, join, link, links, linkAt, Parents}

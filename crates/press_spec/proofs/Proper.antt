@@ -5,7 +5,8 @@ use mathlib.Core.Bool.{true}
 use mathlib.Core.List.{List}
 use lib.ListN.{length}
 use Rattle.clause.specs.Clauses.{Literal, plus, minus, holds, BothWays, resolvent}
-use Rattle.sheet.specs.Editions.{Edition, variables}
+use Rattle.sheet.specs.declared.edition.Edition.{Edition}
+use Rattle.sheet.specs.Editions.{variables}
 use Rattle.sheet.specs.Records.{Node, given, step, clause, nodeAt}
 use Rattle.sheet.specs.Fields.{ruleLines, ruleLine}
 use Rattle.sheet.specs.Counts.{stepsOf}

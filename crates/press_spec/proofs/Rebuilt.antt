@@ -12,7 +12,7 @@ use Rattle.base.specs.Folds.{rise}
 use Rattle.base.proofs.Folds.{rise-by}
 use Rattle.base.proofs.Lists.{getD-blank}
 use Rattle.clause.specs.Clauses.{Literals, plus, minus, holds}
-use Rattle.sheet.specs.Editions.{Edition}
+use Rattle.sheet.specs.declared.edition.Edition.{Edition}
 use Rattle.sheet.specs.Records.{Node, given, step, clause, nodeAt}
 use Rattle.sheet.specs.Counts.{stepOf}
 use Rattle.press_spec.specs.Recycle.{Cut, cutLeft, cutRight, uncut, Fate, lost, kept}

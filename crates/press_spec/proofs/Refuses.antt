@@ -12,7 +12,8 @@ use Rattle.sheet.specs.declared.Reason.{Reason}
 use Rattle.sheet.specs.declared.Reason.the-variants.{Room}
 use Rattle.sheet.specs.declared.Verdict.{Verdict}
 use Rattle.sheet.specs.declared.Verdict.the-variants.{Fine, Refused}
-use Rattle.sheet.specs.Editions.{Edition, recordBytes, lineBytes}
+use Rattle.sheet.specs.declared.edition.Edition.{Edition}
+use Rattle.sheet.specs.Editions.{recordBytes, lineBytes}
 use Rattle.sheet.specs.Records.{Node, Record, node, nodeAt}
 use Rattle.sheet.specs.Fields.{recordAt}
 use Rattle.sheet.specs.Counts.{nodesOf}

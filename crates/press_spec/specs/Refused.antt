@@ -4,7 +4,8 @@ use mathlib.Core.Path.{_≡_}
 use mathlib.Core.Bool.{false}
 use mathlib.Core.Logic.{_⊎_}
 use mathlib.Core.List.{List}
-use Rattle.sheet.specs.Editions.{Edition, recordBytes, lineBytes, pressRecords}
+use Rattle.sheet.specs.declared.edition.Edition.{Edition}
+use Rattle.sheet.specs.Editions.{recordBytes, lineBytes, pressRecords}
 use Rattle.sheet.specs.Records.{Record}
 use Rattle.sheet.specs.Refusals.{Lent, LentRefused, LentFine, Place, RecordRefused}
 use Rattle.press_spec.specs.Judge.{Sizes}

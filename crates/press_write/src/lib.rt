@@ -1,7 +1,6 @@
 // 6: the nodes of the pressed sheet are written with their drops, the rule lines that they use are marked, and both are reported.
 ghost use mathlib.Core.Path.{_≡_};
 ghost use Rattle.base.specs.Bytes.{put};
-ghost use Rattle.sheet.specs.Editions.{narrow};
 ghost use Rattle.sheet.specs.Fields.{sheetBytes};
 ghost use Rattle.press_spec.specs.Drops.{withDrops};
 ghost use Rattle.press_spec.specs.Press.{core, report};
@@ -11,6 +10,7 @@ ghost use Rattle.press_write.specs.Reported.{reported};
 use clause::Clause;
 use press_nodes::clause_table;
 use sheet::NodeNo;
+use sheet::edition::Edition;
 
 // "An accepted press returns .." these, beside output and marks.
 pub struct Pressed {
@@ -23,6 +23,7 @@ pub struct Pressed {
 }
 
 pub fn write(
+    edition: Edition,
     links: &[u64],
     clauses: &[u64],
     lines: usize,
@@ -30,12 +31,12 @@ pub fn write(
     marks: &mut [u8],
 ) -> Pressed
     requires { ⌜ Nodes (now links) (now clauses) ⌝ }
-    requires { ⌜ Emittable lines (nodesIn (now links) (now clauses)) (now out) (now marks) ⌝ }
+    requires { ⌜ Emittable edition lines (nodesIn (now links) (now clauses)) (now out) (now marks) ⌝ }
     ensures report { λ r. ⌜ reported r ≡ report lines (nodesIn (now (links .entry)) (now (clauses .entry))) ⌝ }
-    ensures lent { λ _. ⌜ (now (out .exit) ≡ put (now (out .entry)) 0 (sheetBytes narrow (withDrops (nodesIn (now (links .entry)) (now (clauses .entry)))))) × (now (marks .exit) ≡ put (now (marks .entry)) 0 (core lines (nodesIn (now (links .entry)) (now (clauses .entry))))) ⌝ }
+    ensures lent { λ _. ⌜ (now (out .exit) ≡ put (now (out .entry)) 0 (sheetBytes edition (withDrops (nodesIn (now (links .entry)) (now (clauses .entry)))))) × (now (marks .exit) ≡ put (now (marks .entry)) 0 (core lines (nodesIn (now (links .entry)) (now (clauses .entry))))) ⌝ }
 {
     let sink = NodeNo((links.len() - 1) as u16);
-    let emitted = press_drops::emit_records(links, clauses, out);
+    let emitted = press_drops::emit_records(edition, links, clauses, out);
     let marked = press_marks::mark_lines(links, lines, marks);
     Pressed {
         conclusion: clause_table::clause_at(clauses, sink),

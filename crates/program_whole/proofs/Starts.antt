@@ -7,7 +7,8 @@ use lib.ListN.{length, take}
 use Rattle.sheet.specs.declared.Reason.{Reason}
 use Rattle.sheet.specs.declared.Verdict.{Verdict}
 use Rattle.sheet.specs.declared.Verdict.the-variants as W
-use Rattle.sheet.specs.Editions.{narrow, recordBytes, lineBytes, pressRecords, tableLines}
+use Rattle.sheet.specs.declared.edition.Edition.the-variants.{Narrow}
+use Rattle.sheet.specs.Editions.{recordBytes, lineBytes, pressRecords, tableLines}
 use Rattle.press_spec.specs.Judge.{Sizes, sizes, checkPress}
 use Rattle.press_spec.specs.Press.{Call, call, Outcome, outcome, pressed, press}
 use Rattle.press_spec.proofs.Nodes.{proper-falling}
@@ -21,33 +22,33 @@ use Rattle.press.specs.Said.{said}
 use Rattle.press.proofs.Ready.{press-refused}
 use Rattle.program_whole.specs.Whole.{Starts, Fits}
 
-module _ (z : Sizes) (fine : checkPress narrow z ≡ W.Fine) where
-  enough : Enough narrow z (z .sheet / recordBytes narrow)
-  enough = press-fine narrow z fine
+module _ (z : Sizes) (fine : checkPress Narrow z ≡ W.Fine) where
+  enough : Enough Narrow z (z .sheet / recordBytes Narrow)
+  enough = press-fine Narrow z fine
 
-  pub sheet-short : z .sheet ≤ recordBytes narrow * pressRecords narrow
+  pub sheet-short : z .sheet ≤ recordBytes Narrow * pressRecords Narrow
   sheet-short = omega (arith, enough .0 .0, enough .0 .2)
 
-  pub rules-short : z .rules ≤ lineBytes narrow * tableLines narrow
+  pub rules-short : z .rules ≤ lineBytes Narrow * tableLines Narrow
   rules-short = omega (arith, enough .0 .3 .0, enough .0 .3 .1)
 
 pub whole-refused : (v : Verdict) (why : Reason) (m n : ℕ) (sheet rules out marks s t : List ℕ)
-    → v ≡ checkPress narrow (sizes m n (length out) (length marks)) → v ≡ W.Refused why → Starts s m sheet → Starts t n rules
-    → outcome (said (Refused why (record { 0 = 0 }))) out marks ≡ press narrow (call s t out marks)
-whole-refused v why m n sheet rules out marks s t q e a b = press-refused (call s t out marks) v why (rw (a .0, b .0) q) e
+    → v ≡ checkPress Narrow (sizes m n (length out) (length marks)) → v ≡ W.Refused why → Starts s m sheet → Starts t n rules
+    → outcome (said (Refused why (record { 0 = 0 }))) out marks ≡ press Narrow (call s t out marks)
+whole-refused v why m n sheet rules out marks s t q e a b = press-refused Narrow (call s t out marks) v why (rw (a .0, b .0) q) e
 
 pub whole-pressed : (m n : ℕ) (sheet rules out marks s t : List ℕ) (o : Outcome) → m ≤ length sheet → n ≤ length rules
-    → Starts s m sheet → Starts t n rules → o ≡ press narrow (call (take m sheet) (take n rules) out marks) → o ≡ press narrow (call s t out marks)
+    → Starts s m sheet → Starts t n rules → o ≡ press Narrow (call (take m sheet) (take n rules) out marks) → o ≡ press Narrow (call s t out marks)
 whole-pressed m n sheet rules out marks s t o i j a b e = rw (a .1 i, b .1 j) e
 
-pub accepted-fits : (r : PressAnswer) (c : Call) (out marks : List ℕ) → outcome (said r) out marks ≡ press narrow c → Fits (length (c .out)) r
+pub accepted-fits : (r : PressAnswer) (c : Call) (out marks : List ℕ) → outcome (said r) out marks ≡ press Narrow c → Fits (length (c .out)) r
 unfolding said
 accepted-fits (Accepted p) c out marks e =
-    let y = accepted-says narrow c (reported p) (sym (ap (λ (o : Outcome). o .answer) e)) in
+    let y = accepted-says Narrow c (reported p) (sym (ap (λ (o : Outcome). o .answer) e)) in
     let s = pressed (y .input) in
-    let most = length-withDrops-most s (proper-falling narrow (c .rules) s (y .kept .proper)) in
+    let most = length-withDrops-most s (proper-falling Narrow (c .rules) s (y .kept .proper)) in
     omega (arith, y .recorded, most, y .kept .fits, y .kept .some, y .enough .1 .0)
 accepted-fits (Refused why k) c out marks e = tt
 
-pub fits-bytes : (room : ℕ) (r : PressAnswer) (p : Pressed) → r ≡ Accepted p → Fits room r → recordBytes narrow * p .records ≤ room
+pub fits-bytes : (room : ℕ) (r : PressAnswer) (p : Pressed) → r ≡ Accepted p → Fits room r → recordBytes Narrow * p .records ≤ room
 fits-bytes room r p e f = rw e at f

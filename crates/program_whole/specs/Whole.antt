@@ -3,7 +3,8 @@ use Prim.Native.Nat.{ℕ, _*_, _≤_}
 use mathlib.Core.Path.{_≡_}
 use mathlib.Core.List.{List}
 use lib.ListN.{length, take}
-use Rattle.sheet.specs.Editions.{narrow, recordBytes}
+use Rattle.sheet.specs.declared.edition.Edition.the-variants.{Narrow}
+use Rattle.sheet.specs.Editions.{recordBytes}
 use Rattle.press.specs.declared.PressAnswer.{PressAnswer}
 use Rattle.press.specs.declared.PressAnswer.the-variants.{Accepted, Refused}
 
@@ -13,5 +14,5 @@ Starts s n buffer = (length s ≡ n) × (n ≤ length buffer → s ≡ take n bu
 
 -- the records of an accepted answer stand in so many bytes of output
 abbrev pub Fits : ℕ → PressAnswer → Type 0
-Fits room (Accepted p) = recordBytes narrow * p .records ≤ room
+Fits room (Accepted p) = recordBytes Narrow * p .records ≤ room
 Fits room (Refused why k) = Unit {0}

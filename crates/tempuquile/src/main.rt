@@ -1,12 +1,12 @@
 // "A small program reads `rules.bin` and `sheet.bin`, presses, writes `pressed.bin` if accepted (else leaves that file alone), and prints one
-// line." All in the folder that it runs in.
+// line." All in the folder that it runs in, and of the narrow edition.
 use press::PressAnswer;
 use program_files::Length;
-use sheet::limits::LINE_BYTES;
-use sheet::limits::PRESS_RECORDS;
-use sheet::limits::PRESSED_RECORDS;
-use sheet::limits::RECORD_BYTES;
 use sheet::limits::TABLE_LINES;
+use sheet::narrow::LINE_BYTES;
+use sheet::narrow::PRESS_RECORDS;
+use sheet::narrow::PRESSED_RECORDS;
+use sheet::narrow::RECORD_BYTES;
 use stdio::text;
 
 mod say;

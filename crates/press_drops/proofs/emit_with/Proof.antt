@@ -17,7 +17,7 @@ abbrev Inv-loop : tie.InvT-loop
 Inv-loop links clauses last out₀ e₀ k₀ out e k = (k ≤ length links)
     × (length out ≡ length out₀)
     × Roomy (withDrops (after k (nodesIn links clauses))) (emissionOf out e)
-    × (emitAll (withDrops (after k (nodesIn links clauses))) (emissionOf out e) ≡ emitAll (withDrops (nodesIn links clauses)) (unwritten out₀))
+    × (emitAll (withDrops (after k (nodesIn links clauses))) (emissionOf out e) ≡ emitAll (withDrops (nodesIn links clauses)) (unwritten (e₀ .edition) out₀))
 
 abbrev μ-loop : tie.MeasureT-loop
 μ-loop links clauses last out₀ e₀ k₀ out e k = length links - k
@@ -31,12 +31,12 @@ nothing-requires c κs = search needs
 loop-holds : tie.Need-loop-holds Inv-loop μ-loop
 loop-holds c = let st = c .before .before .before .before .before .before .before .before .before in
     let out = st .args .out .now in
-    let none = ap (λ (t : Tally). emission out 0 t) (sym (c .nothing .ensures)) in
+    let none = ap (λ (t : Tally). emission (st .args .edition) out 0 t) (sym (c .nothing .ensures)) in
     let rs = withDrops (nodesIn (st .args .links .now) (st .args .clauses .now)) in
     (omega arith, refl, subst (Roomy rs) none (st .pre .1 .1), sym (ap (emitAll rs) none))
 
-cast-t15 : tie.Need-cast-t15 Inv-loop μ-loop
-cast-t15 c = search needs
+cast-t16 : tie.Need-cast-t16 Inv-loop μ-loop
+cast-t16 c = search needs
 
 emit-turn-requires : tie.Need-emit-turn-requires Inv-loop μ-loop
 emit-turn-requires c κs = let st = c .before .before .before .before .before .before .before .before .before .before .before .before .before in
@@ -86,7 +86,7 @@ emit-with-spec =
     last-uses-requires
     nothing-requires
     loop-holds
-    cast-t15
+    cast-t16
     emit-turn-requires
     add-k
     loop-less

@@ -33,8 +33,8 @@ enum-told-2 : tie.Need-enum-told-2
 enum-told-2 c = search needs
 
 returns : tie.Need-returns
-returns c = λ rules links fits. let a = c .before .before .before .before .args in c .enum-told2 .given .1
-    ∙ sym (left-late _ (a .next .0) (inside (c .before .before .before .before) links fits) rules (a .pivot) (a .left .0) (a .right .0) (literalsOf (a .written)) _ (sym (c .before .before .check-earlier .ensures) ∙ c .enum-told2 .given .1))
+returns c = λ edition rules links fits. let a = c .before .before .before .before .args in c .enum-told2 .given .1
+    ∙ sym (left-late edition _ (a .next .0) (inside (c .before .before .before .before) links fits) rules (a .pivot) (a .left .0) (a .right .0) (literalsOf (a .written)) _ (sym (c .before .before .check-earlier .ensures) ∙ c .enum-told2 .given .1))
 
 check-earlier-requires-2 : tie.Need-check-earlier-requires-2
 check-earlier-requires-2 c κs = search needs
@@ -46,8 +46,8 @@ enum-told-4 : tie.Need-enum-told-4
 enum-told-4 c = search needs
 
 returns-2 : tie.Need-returns-2
-returns-2 c = λ rules links fits. let a = c .before .before .before .before .before .before .before .args in c .enum-told4 .given .1
-    ∙ sym (right-late _ (a .next .0) (inside (c .before .before .before .before .before .before .before) links fits) rules (a .pivot) (a .left .0) (a .right .0) (literalsOf (a .written)) _ (sym (c .before .before .before .before .before .check-earlier .ensures) ∙ c .before .before .before .enum-told .given .1) (sym (c .before .before .check-earlier2 .ensures) ∙ c .enum-told4 .given .1))
+returns-2 c = λ edition rules links fits. let a = c .before .before .before .before .before .before .before .args in c .enum-told4 .given .1
+    ∙ sym (right-late edition _ (a .next .0) (inside (c .before .before .before .before .before .before .before) links fits) rules (a .pivot) (a .left .0) (a .right .0) (literalsOf (a .written)) _ (sym (c .before .before .before .before .before .check-earlier .ensures) ∙ c .before .before .before .enum-told .given .1) (sym (c .before .before .check-earlier2 .ensures) ∙ c .enum-told4 .given .1))
 
 clause-at-requires : tie.Need-clause-at-requires
 clause-at-requires c κs = let a = c .before .before .before .before .before .before .before .args in omega (arith, c .before .before .before .before .before .before .before .pre, earlier-fine (a .next .0) (a .left .0) (sym (c .before .before .before .before .before .check-earlier .ensures) ∙ c .before .before .before .enum-told .given .1))
@@ -59,14 +59,14 @@ check-step-requires : tie.Need-check-step-requires
 check-step-requires c κs = search needs
 
 returns-3 : tie.Need-returns-3
-returns-3 c = λ rules links fits. let a = c .before .before .before .before .before .before .before .before .before .before .args in
+returns-3 c = λ edition rules links fits. let a = c .before .before .before .before .before .before .before .before .before .before .args in
     let early = sym (c .before .before .before .before .before .before .before .before .check-earlier .ensures) ∙ c .before .before .before .before .before .before .enum-told .given .1 in
     let early2 = sym (c .before .before .before .before .before .check-earlier2 .ensures) ∙ c .before .before .before .enum-told3 .given .1 in
     let left = clauses-at links (a .clauses .now) (a .left .0) (omega (arith, fits, earlier-fine (a .next .0) (a .left .0) early)) in
     let right = clauses-at links (a .clauses .now) (a .right .0) (omega (arith, fits, earlier-fine (a .next .0) (a .right .0) early2)) in
     c .check-step .ensures
     ∙ ap₂ (λ (x y : Literals). checkStep (a .pivot) x y (literalsOf (a .written))) (c .before .before .clause-at .ensures ∙ left) (c .before .clause-at2 .ensures ∙ right)
-    ∙ sym (both-early _ (a .next .0) (inside (c .before .before .before .before .before .before .before .before .before .before) links fits) rules (a .pivot) (a .left .0) (a .right .0) (literalsOf (a .written)) early early2)
+    ∙ sym (both-early edition _ (a .next .0) (inside (c .before .before .before .before .before .before .before .before .before .before) links fits) rules (a .pivot) (a .left .0) (a .right .0) (literalsOf (a .written)) early early2)
 
 pub check-step-spec : {M : Type 1} → statement M
 check-step-spec =

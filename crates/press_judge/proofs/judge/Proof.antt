@@ -3,9 +3,11 @@ use mathlib.Core.List.{List}
 use Prim.Native.Nat.{ℕ, _+_, _-_, _*_, _<_, _≤_}
 use native.Mathlib.Omega.{arith}
 use lib.ListN.{length, take, drop, length-take, length-drop}
-use Rattle.sheet.specs.Editions.{narrow, recordBytes}
+use Rattle.sheet.specs.declared.edition.Edition.{Edition}
+use Rattle.sheet.specs.Editions.{recordBytes}
 use Rattle.sheet.specs.Fields.{recordAt}
 use Rattle.sheet.proofs.RecordBytes.{lent-is}
+use Rattle.sheet.proofs.Sizes.{record-inside}
 use Rattle.press_spec.specs.Judge.{bad}
 use Rattle.press_nodes.specs.Tables.{clauseWords, nodesIn}
 use Rattle.press_judge.specs.Turns.{judgedIn}
@@ -16,25 +18,51 @@ use Rattle.press_judge.proofs.judge.Statement.{statement}
 use Rattle.press_judge.proofs.judge.Tie as tie
 
 -- the bytes that are lent are the record's
-lent-here : (sheet : List ℕ) {at k n : ℕ} → at ≡ recordBytes narrow * k → k ≡ n → take (at + recordBytes narrow - at) (drop at sheet) ≡ recordAt narrow sheet n
-lent-here sheet {at} {k} {n} e q =
-    ap (λ (i : ℕ). take (i + recordBytes narrow - i) (drop i sheet)) (e ∙ ap (λ (j : ℕ). recordBytes narrow * j) q) ∙ lent-is sheet n
+lent-here : (e : Edition) (sheet : List ℕ) (k : ℕ) {at size : ℕ} → at ≡ recordBytes e * k → size ≡ recordBytes e → take (at + size - at) (drop at sheet) ≡ recordAt e sheet k
+lent-here e sheet k {at} {size} p q =
+    (λ i. take (p i + q i - p i) (drop (p i) sheet)) ∙ lent-is e sheet k
 
 abbrev Inv-loop : tie.InvT-loop
-Inv-loop sheet rules links₀ clauses₀ count judged₀ links clauses judged = (judged ≤ count)
+Inv-loop edition sheet rules links₀ clauses₀ count judged₀ links clauses judged = (judged ≤ count)
     × (count ≡ length links₀)
     × (length links ≡ length links₀)
     × (length clauses ≡ clauseWords (length links₀))
-    × Left rules sheet count judged (nodesIn links clauses)
+    × Left edition rules sheet count judged (nodesIn links clauses)
 
 abbrev μ-loop : tie.MeasureT-loop
-μ-loop sheet rules links₀ clauses₀ count judged₀ links clauses judged = count - judged
+μ-loop edition sheet rules links₀ clauses₀ count judged₀ links clauses judged = count - judged
+
+-- where the next record is lent
+module _ (r : tie.After-record-bytes Inv-loop μ-loop) where
+  abbrev start : tie.Start Inv-loop μ-loop
+  start = r .before .before .before .before .before .before .before .before .before
+
+  abbrev edition : Edition
+  edition = start .args .edition
+
+  abbrev sheet : List ℕ
+  sheet = start .args .sheet .now
+
+  abbrev judged : ℕ
+  judged = r .before .before .before .before .loop .judged
+
+  one-more : judged < length (start .args .links .now)
+  one-more = omega (arith, r .before .before .before .before .loop .inv .1, r .before .before .before .loop-test .taken)
+
+  begins : r .before .start .result ≡ recordBytes edition * judged
+  begins = r .before .start .ensures ∙ ap (λ (k : ℕ). recordBytes edition * k) (r .before .before .record-of .ensures)
+
+  inside : r .before .start .result + r .record-bytes .result ≤ length sheet
+  inside = omega (arith, begins, r .record-bytes .ensures, record-inside edition judged _ one-more, start .pre .1)
+
+  here : take (r .before .start .result + r .record-bytes .result - r .before .start .result) (drop (r .before .start .result) sheet) ≡ recordAt edition sheet judged
+  here = lent-here edition sheet judged begins (r .record-bytes .ensures)
 
 loop-holds : tie.Need-loop-holds Inv-loop μ-loop
-loop-holds c = let st = c .before .before .before .before in (omega arith, refl, refl, st .pre .0 .0, judge-begins _ _ (length (st .args .links .now)) (nodesIn (st .args .links .now) (st .args .clauses .now)) (st .pre .1))
+loop-holds c = let st = c .before .before .before .before in (omega arith, refl, refl, st .pre .0 .0, judge-begins _ _ _ (length (st .args .links .now)) (nodesIn (st .args .links .now) (st .args .clauses .now)) (st .pre .1))
 
-cast-t14 : tie.Need-cast-t14 Inv-loop μ-loop
-cast-t14 c = search needs
+cast-t15 : tie.Need-cast-t15 Inv-loop μ-loop
+cast-t15 c = search needs
 
 record-of-requires : tie.Need-record-of-requires Inv-loop μ-loop
 record-of-requires c κs = search needs
@@ -42,24 +70,25 @@ record-of-requires c κs = search needs
 start-requires : tie.Need-start-requires Inv-loop μ-loop
 start-requires c κs = omega (arith, c .record-of .ensures, c .before .loop-test .taken, c .before .before .loop .inv .1, c .before .before .before .before .before .before .before .pre .0 .1)
 
+record-bytes-requires : tie.Need-record-bytes-requires Inv-loop μ-loop
+record-bytes-requires c κs = search needs
+
 add-end : tie.Need-add-end Inv-loop μ-loop
-add-end c = search needs
+add-end c = omega (arith, inside c)
 
 sub-judge-turn : tie.Need-sub-judge-turn Inv-loop μ-loop
-sub-judge-turn c = search needs
+sub-judge-turn c = omega arith
 
 part-judge-turn-start : tie.Need-part-judge-turn-start Inv-loop μ-loop
-part-judge-turn-start c = search needs
+part-judge-turn-start c = omega (arith, inside c)
 
 part-judge-turn-end : tie.Need-part-judge-turn-end Inv-loop μ-loop
-part-judge-turn-end c = search needs
+part-judge-turn-end c = omega (arith, inside c)
 
 judge-turn-requires : tie.Need-judge-turn-requires Inv-loop μ-loop
-judge-turn-requires c κs = let inv = c .before .before .before .before .before .before .loop .inv in (
-  omega (arith, inv .2, inv .3),
-  omega (arith, inv .1, inv .2, c .before .before .before .before .before .loop-test .taken),
-  rw (length-take, length-drop) (omega (arith, c .before .before .before .before .before .before .before .before .before .before .before .pre .1, inv .1, c .before .before .before .before .before .loop-test .taken, c .before .before .before .before .record-of .ensures, c .before .before .before .start .ensures)),
-)
+judge-turn-requires c κs = let r = c .before .before .before in
+    let inv = r .before .before .before .before .loop .inv in
+    (omega (arith, inv .2, inv .3), omega (arith, one-more r, inv .2), rw (length-take, length-drop) (omega (arith, inside r, r .record-bytes .ensures)))
 
 enum-told : tie.Need-enum-told Inv-loop μ-loop
 enum-told c = search needs
@@ -75,13 +104,13 @@ same-length-2 c = search needs
 
 returns : tie.Need-returns Inv-loop μ-loop
 unfolding judgedIn
-returns c = let l = c .before .before .before .before .before .before .before .before .before .before .before .before .before .before .loop in
-    let a = c .before .before .before .before .before .before .before .before .before .before .before .before .before .before .before .before .before .before .before .args in
-    let inv = l .inv in
+returns c = let r = c .before .before .before .before .before .before .before .before .before .before .before in
+    let l = r .before .before .before .before .loop in
+    let a = start r .args in
     let why = c .before .verdict .given .0 .0 in
-    ap (bad why) (c .before .before .before .before .before .before .before .before .before .before .before .before .record-of .ensures)
-    ∙ judge-halts (a .rules .now) (a .sheet .now) (length (a .links .now)) (l .judged) (omega (arith, inv .1, c .before .before .before .before .before .before .before .before .before .before .before .before .before .loop-test .taken)) (nodesIn (l .links) (l .clauses))
-    (nodes-length (l .links) (l .clauses) ∙ inv .2) (inv .4) _ (lent-here (a .sheet .now) (c .before .before .before .before .before .before .before .before .before .before .before .start .ensures) (c .before .before .before .before .before .before .before .before .before .before .before .before .record-of .ensures)) _ why _ (c .before .verdict .given .1) (c .before .before .before .before .before .before .before .judge-turn .ensures)
+    ap (bad why) (r .before .before .record-of .ensures)
+    ∙ judge-halts (a .edition) (a .rules .now) (a .sheet .now) (length (a .links .now)) (l .judged) (one-more r) (nodesIn (l .links) (l .clauses))
+    (nodes-length (l .links) (l .clauses) ∙ l .inv .2) (l .inv .4) _ (here r) _ why _ (c .before .verdict .given .1) (c .before .before .before .before .before .before .before .judge-turn .ensures)
 
 add-judged : tie.Need-add-judged Inv-loop μ-loop
 add-judged c = search needs
@@ -90,15 +119,17 @@ loop-less : tie.Need-loop-less Inv-loop μ-loop
 loop-less c = search needs
 
 loop-again : tie.Need-loop-again Inv-loop μ-loop
-loop-again c = let l = c .before .before .before .before .before .before .before .before .before .before .before .before .before .loop in
-    let a = c .before .before .before .before .before .before .before .before .before .before .before .before .before .before .before .before .before .before .args in
+loop-again c = let turn = c .before .before .before .before .before .before .judge-turn in
+    let r = c .before .before .before .before .before .before .before .before .before .before in
+    let l = r .before .before .before .before .loop in
+    let a = start r .args in
     let inv = l .inv in (
-      omega (arith, inv .1, c .before .before .before .before .before .before .before .before .before .before .before .before .loop-test .taken),
+      omega (arith, inv .1, one-more r),
       inv .1,
-      c .before .before .before .before .before .before .judge-turn .kept .1 .1 .0 ∙ inv .2,
-      c .before .before .before .before .before .before .judge-turn .kept .1 .1 .1 .0 ∙ inv .3,
-      judge-goes (a .rules .now) (a .sheet .now) (length (a .links .now)) (l .judged) (omega (arith, inv .1, c .before .before .before .before .before .before .before .before .before .before .before .before .loop-test .taken)) (nodesIn (l .links) (l .clauses))
-          (nodes-length (l .links) (l .clauses) ∙ inv .2) (inv .4) _ (lent-here (a .sheet .now) (c .before .before .before .before .before .before .before .before .before .before .start .ensures) (c .before .before .before .before .before .before .before .before .before .before .before .record-of .ensures)) _ _ (c .enum-told .given .1) (c .before .before .before .before .before .before .judge-turn .ensures),
+      turn .kept .1 .1 .1 .0 ∙ inv .2,
+      turn .kept .1 .1 .1 .1 .0 ∙ inv .3,
+      judge-goes (a .edition) (a .rules .now) (a .sheet .now) (length (a .links .now)) (l .judged) (one-more r) (nodesIn (l .links) (l .clauses))
+          (nodes-length (l .links) (l .clauses) ∙ inv .2) (inv .4) _ (here r) _ _ (c .enum-told .given .1) (turn .ensures),
     )
 
 same-length-3 : tie.Need-same-length-3 Inv-loop μ-loop
@@ -112,7 +143,7 @@ unfolding judgedIn
 returns-2 c = let l = c .before .loop in
     let a = c .before .before .before .before .before .before .args in
     let inv = l .inv in
-    judge-ends (a .rules .now) (a .sheet .now) (length (a .links .now)) (l .judged) (nodesIn (l .links) (l .clauses))
+    judge-ends (a .edition) (a .rules .now) (a .sheet .now) (length (a .links .now)) (l .judged) (nodesIn (l .links) (l .clauses))
     (nodes-length (l .links) (l .clauses) ∙ inv .2) (inv .0) (omega (arith, inv .1, c .loop-test .left)) (inv .4)
 
 pub judge-spec : {M : Type 1} → statement M
@@ -122,9 +153,10 @@ judge-spec =
     Inv-loop
     μ-loop
     loop-holds
-    cast-t14
+    cast-t15
     record-of-requires
     start-requires
+    record-bytes-requires
     add-end
     sub-judge-turn
     part-judge-turn-start

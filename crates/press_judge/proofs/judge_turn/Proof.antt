@@ -22,7 +22,7 @@ module _ (r : tie.After-read-record) where
   nodes = nodesIn (start .args .links .now) (start .args .clauses .now)
 
   abbrev CheckedHere : Node → Verdict → Type 0
-  CheckedHere n v = Checked (start .args .rules .now) (start .args .bytes .now) nodes (start .args .k .0) n v
+  CheckedHere n v = Checked (start .args .edition) (start .args .rules .now) (start .args .bytes .now) nodes (start .args .k .0) n v
 
 abbrev read-of : tie.After-reading → tie.After-read-record
 read-of y = y .before .before
@@ -34,7 +34,7 @@ given-here g = let m = g .before .before in
     let y = g .before .before .before .before .before in
     record {
       read = sym (read-of y .read-record .ensures) ∙ ap readingOf (y .reading .given .1 ∙ ap Reads (m .«record» .given .1));
-      says = g .check-given .ensures ∙ sym (given-checked _ _ _ _);
+      says = g .check-given .ensures ∙ sym (given-checked _ _ _ _ _);
     }
 
 step-here : (g : tie.After-check-step) → let m = g .before .before .before in
@@ -46,7 +46,7 @@ step-here g = let m = g .before .before .before in
     let a = start (read-of y) .args in
     record {
       read = sym (read-of y .read-record .ensures) ∙ ap readingOf (y .reading .given .1 ∙ ap Reads (m .record2 .given .1));
-      says = g .check-step .ensures (a .rules .now) (a .links .now) (omega (arith, start (read-of y) .pre .1));
+      says = g .check-step .ensures (a .edition) (a .rules .now) (a .links .now) (omega (arith, start (read-of y) .pre .1));
     }
 
 -- ---- the needs
@@ -67,7 +67,7 @@ returns : tie.Need-returns
 unfolding readingOf verdictOf
 returns c = let r = c .before .before .before in
     let told = c .before .enum-told .given .1 in
-    turn-unread (start r .args .rules .now) (start r .args .bytes .now) (nodes r) (start r .args .k .0) _ (c .verdict-of .ensures ∙ ap (λ x. verdictOf (readingOf x)) told) (sym (r .read-record .ensures) ∙ ap readingOf told)
+    turn-unread (start r .args .edition) (start r .args .rules .now) (start r .args .bytes .now) (nodes r) (start r .args .k .0) _ (c .verdict-of .ensures ∙ ap (λ x. verdictOf (readingOf x)) told) (sym (r .read-record .ensures) ∙ ap readingOf told)
 
 enum-known-record : tie.Need-enum-known-record
 enum-known-record c = search needs
@@ -133,7 +133,7 @@ returns-6 : tie.Need-returns-6
 unfolding readingOf recordOf
 returns-6 c = let y = c .before .before .before in
     let r = read-of y in
-    turn-drop (start r .args .rules .now) (start r .args .bytes .now) (nodes r) (start r .args .k .0) _ (sym (r .read-record .ensures) ∙ ap readingOf (y .reading .given .1 ∙ ap Reads (c .enum-told6 .given .1)))
+    turn-drop (start r .args .edition) (start r .args .rules .now) (start r .args .bytes .now) (nodes r) (start r .args .k .0) _ (sym (r .read-record .ensures) ∙ ap readingOf (y .reading .given .1 ∙ ap Reads (c .enum-told6 .given .1)))
 
 pub judge-turn-spec : {M : Type 1} → statement M
 judge-turn-spec =

@@ -5,7 +5,7 @@ use Prim.Native.Nat.{ℕ, _-_, _≤_, _<_}
 use lib.ListN.{length, getD, take, drop, replicate, List·getD-append}
 use lib.Seq.{length-take-le}
 use Rattle.base.specs.Bytes.{put}
-use Rattle.sheet.specs.Editions.{narrow, capacity}
+use Rattle.sheet.specs.Editions.{capacity}
 use Rattle.sheet.specs.Fields.{sheetBytes}
 use Rattle.sheet.specs.Records.{Node}
 use Rattle.press_spec.specs.Drops.{withDrops}
@@ -243,10 +243,10 @@ rebuild-requires : tie.Need-rebuild-requires
 rebuild-requires c κs = (c .before .before .before .before .before .before .before .before .before .before .before .before .before .before .before .before .before .before .before .pre .0 .0, (length-take-le _ _ (fates-long (c .before .before .before .before .before)), lent-long capacity _ (few (c .before .before .before .before .before .before .before .before .before .before .before .before .before .before .before .before .before .before .before))))
 
 sub-kept-2 : tie.Need-sub-kept-2
-sub-kept-2 c = search needs
+sub-kept-2 c = let st = c .before .before .before .before .before .before .before .before .before .before .before .before .before .before .before .before .before .before .before .before .before .before .before .before .before in omega (arith, st .pre .0 .1)
 
 mul-kept : tie.Need-mul-kept
-mul-kept c = search needs
+mul-kept c = let st = c .before .before .before .before .before .before .before .before .before .before .before .before .before .before .before .before .before .before .before .before .before .before .before .before .before in omega (arith, few st)
 
 array-read-kept : tie.Need-array-read-kept
 array-read-kept c = let st = c .before .before .before .before .before .before .before .before .before .before .before .before .before .before .before .before .before .before .before .before .before .before .before .before .before in omega (arith, few st, st .pre .0 .1)
@@ -273,14 +273,14 @@ array-share-prefix-numbers c = numbers-long (c .before .before .before .before)
 slice-aggregate-lay : tie.Need-slice-aggregate-lay
 slice-aggregate-lay c = sym (length-take-le _ _ (numbers-long (c .before .before .before .before .before)))
 
-array-borrow-prefix-new-links : tie.Need-array-borrow-prefix-new-links
-array-borrow-prefix-new-links c = count-fits (c .before .before .before .before .before)
+array-borrow-prefix-laid : tie.Need-array-borrow-prefix-laid
+array-borrow-prefix-laid c = count-fits (c .before .before .before .before .before)
 
 slice-aggregate-lay-2 : tie.Need-slice-aggregate-lay-2
 slice-aggregate-lay-2 c = sym (room (c .before .before .before .before .before .before))
 
-array-borrow-prefix-new-clauses : tie.Need-array-borrow-prefix-new-clauses
-array-borrow-prefix-new-clauses c = words-fit (c .before .before .before .before)
+array-borrow-prefix-sets : tie.Need-array-borrow-prefix-sets
+array-borrow-prefix-sets c = words-fit (c .before .before .before .before)
 
 slice-aggregate-lay-3 : tie.Need-slice-aggregate-lay-3
 slice-aggregate-lay-3 c = sym (words-room (c .before .before .before .before .before))
@@ -295,14 +295,14 @@ lay-requires c κs = let w = c .before .before .before .before .before in
       ),
     )
 
-array-share-prefix-new-links : tie.Need-array-share-prefix-new-links
-array-share-prefix-new-links c = links-long (c .before .before)
+array-share-prefix-laid : tie.Need-array-share-prefix-laid
+array-share-prefix-laid c = links-long (c .before .before)
 
 slice-aggregate-write : tie.Need-slice-aggregate-write
 slice-aggregate-write c = sym (length-take-le _ _ (links-long (c .before .before .before)))
 
-array-share-prefix-new-clauses : tie.Need-array-share-prefix-new-clauses
-array-share-prefix-new-clauses c = clauses-long (c .before .before .before)
+array-share-prefix-sets : tie.Need-array-share-prefix-sets
+array-share-prefix-sets c = clauses-long (c .before .before .before)
 
 slice-aggregate-write-2 : tie.Need-slice-aggregate-write-2
 slice-aggregate-write-2 c = sym (length-take-le _ _ (clauses-long (c .before .before .before .before)))
@@ -310,7 +310,7 @@ slice-aggregate-write-2 c = sym (length-take-le _ _ (clauses-long (c .before .be
 write-requires : tie.Need-write-requires
 write-requires c κs = let y = c .before .before .before .before .before .before in
     let a = c .before .before .before .before .before .before .before .before .before .before .before .before .before .before .before .before .before .before .before .before .before .before .before .before .before .before .before .before .before .before .before .before .before .before .before .before .before .before .before .before .before .before .args in
-    (rw (links-again y, clauses-again y) (pressed-tables y), subst (λ (s : List Node). Emittable (a .lines) s (a .out .now) (a .marks .now)) (sym (lent y)) (c .before .before .before .before .before .before .before .before .before .before .before .before .before .before .before .before .before .before .before .before .before .before .before .before .before .before .before .before .before .before .before .before .before .before .before .before .before .before .before .before .before .before .pre .1))
+    (rw (links-again y, clauses-again y) (pressed-tables y), subst (λ (s : List Node). Emittable (a .edition) (a .lines) s (a .out .now) (a .marks .now)) (sym (lent y)) (c .before .before .before .before .before .before .before .before .before .before .before .before .before .before .before .before .before .before .before .before .before .before .before .before .before .before .before .before .before .before .before .before .before .before .before .before .before .before .before .before .before .before .pre .1))
 
 same-length : tie.Need-same-length
 same-length c = c .before .before .before .before .before .before .before .before .before .before .before .before .before .before .before .before .before .before .before .before .before .before .before .before .before .before .before .rebuild .kept .0
@@ -330,7 +330,7 @@ returns c = let a = c .before .before .before .before .before .before .before .b
     let same = lent (c .before .before .before .before .before .before .before .before .before .before .before) in (
       e .0 ∙ ap (report (a .lines)) same,
       (
-        e .1 .0 ∙ ap (λ (s : List Node). put (a .out .now) 0 (sheetBytes narrow (withDrops s))) same,
+        e .1 .0 ∙ ap (λ (s : List Node). put (a .out .now) 0 (sheetBytes (a .edition) (withDrops s))) same,
         e .1 .1 ∙ ap (λ (s : List Node). put (a .marks .now) 0 (core (a .lines) s)) same,
       ),
     )
@@ -365,14 +365,14 @@ run-passes-spec =
     words-for-requires
     array-share-prefix-numbers
     slice-aggregate-lay
-    array-borrow-prefix-new-links
+    array-borrow-prefix-laid
     slice-aggregate-lay-2
-    array-borrow-prefix-new-clauses
+    array-borrow-prefix-sets
     slice-aggregate-lay-3
     lay-requires
-    array-share-prefix-new-links
+    array-share-prefix-laid
     slice-aggregate-write
-    array-share-prefix-new-clauses
+    array-share-prefix-sets
     slice-aggregate-write-2
     write-requires
     same-length

@@ -1,5 +1,7 @@
-use native.Mathlib.Omega.{arith}
-use lib.ListN.{length-set}
+use Prim.Native.Nat.{ℕ}
+use mathlib.Core.Path.{ap, _∙_}
+use Rattle.clause.specs.Denote.{literalsOf}
+use Rattle.press_nodes.specs.Tables.{clausesIn, changed}
 use Rattle.press_nodes.proofs.Tables.{clauses-put}
 use borrow.Author.Needs.{needs}
 use Rattle.press_nodes.proofs.clause_table.put_clause.Statement.{statement}
@@ -11,26 +13,25 @@ index-requires c κs = search needs
 mul-i : tie.Need-mul-i
 mul-i c = search needs
 
-mul-clauses : tie.Need-mul-clauses
-mul-clauses c = search needs
+put-set-requires : tie.Need-put-set-requires
+put-set-requires c κs = search needs
 
-slice-write-clauses : tie.Need-slice-write-clauses
-slice-write-clauses c = search needs
+add-put-set : tie.Need-add-put-set
+add-put-set c = search needs
 
-add-clauses : tie.Need-add-clauses
-add-clauses c = search needs
-
-mul-clauses-2 : tie.Need-mul-clauses-2
-mul-clauses-2 c = search needs
-
-slice-write-clauses-2 : tie.Need-slice-write-clauses-2
-slice-write-clauses-2 c = simp length-set (omega arith)
+put-set-requires-2 : tie.Need-put-set-requires-2
+put-set-requires-2 c κs = search needs
 
 same-length : tie.Need-same-length
 same-length c = search needs
 
 returns : tie.Need-returns
-returns c = clauses-put _ _ _ _ _ (c .before .before .index .ensures) (omega arith)
+returns c = let second = c .before .before in
+    let first = second .before .before .before .before in
+    let index = first .before .before in
+    let a = index .before .before .args in
+    clauses-put _ _ _ _ _ _ (first .put-set .ensures) (second .put-set2 .ensures)
+    ∙ ap (λ (n : ℕ). changed n (literalsOf (a .c)) (clausesIn (a .clauses .now))) (index .index .ensures)
 
 pub put-clause-spec : {M : Type 1} → statement M
 put-clause-spec =
@@ -38,10 +39,8 @@ put-clause-spec =
     (tie.spec
     index-requires
     mul-i
-    mul-clauses
-    slice-write-clauses
-    add-clauses
-    mul-clauses-2
-    slice-write-clauses-2
+    put-set-requires
+    add-put-set
+    put-set-requires-2
     same-length
     returns)
