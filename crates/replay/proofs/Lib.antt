@@ -1,4 +1,5 @@
 pub mod Answers
+pub mod Editions
 pub mod Owned
 pub mod Stopping
 pub mod Unique

@@ -5,7 +5,7 @@ use native.Mathlib.Omega.{arith}
 use mathlib.Core.List.{List, _∷_}
 use lib.ListN.{length, replicate, length-replicate}
 use denote.Slice.{Room}
-use Rattle.sheet.specs.Editions.{narrow, replayRecords}
+use Rattle.sheet.specs.Editions.{mostRecords}
 use Rattle.replay_spec.specs.Slots.{Slot as RowSlot}
 use Rattle.replay_slots.specs.Said.{slotOf, rowOf}
 use Rattle.replay_slots.specs.declared.Slot.{Slot}
@@ -16,8 +16,8 @@ unfolding rowOf
 row-replicate zero s = refl
 row-replicate (suc n) s = ap (λ (l : List RowSlot). slotOf s ∷ l) (row-replicate n s)
 
-module _ (n : ℕ) (slots : ℕ) (e : n ≡ min slots (replayRecords narrow)) where
-  pub n≤ : n ≤ replayRecords narrow
+module _ (n : ℕ) (slots : ℕ) (e : n ≡ min slots mostRecords) where
+  pub n≤ : n ≤ mostRecords
   n≤ = omega (arith, e)
 
   pub roomy : (s : Slot) → Room T.the-row (length (replicate n s))

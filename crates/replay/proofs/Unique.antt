@@ -1,33 +1,31 @@
 -- Nothing else satisfies the promises: what an answer, a tally and a row say is said by no other.
 use mathlib.Core.Path.{_≡_, refl, sym, ap, ap₂, _∙_}
 use mathlib.Core.List.{List, [], _∷_}
+use Rattle.clause.proofs.Fits.{literalsOf-injective}
 use Rattle.sheet.specs.Reasons.{numberOf}
 use Rattle.sheet.proofs.Reasons.{numberOf-injective}
 use Rattle.tally.specs.Said.{tallyOf}
 use Rattle.replay_spec.specs.Step.{state, Stepped, stepped}
-use Rattle.replay_spec.specs.Replay.{Outcome, outcome}
+use Rattle.replay_spec.specs.Slots.{Slot}
+use Rattle.replay_spec.specs.Replay.{Result, Outcome, outcome}
 use Rattle.replay_slots.specs.declared.Slot.{Slot as CodeSlot}
 use Rattle.tally.specs.declared.Tally.{Tally as CodeTally}
 use Rattle.replay_slots.specs.declared.StepAnswer.{StepAnswer}
 use Rattle.replay_slots.specs.declared.StepAnswer.the-variants as S
-use Rattle.replay_slots.specs.Said.{slotOf, rowOf, saidOfStep}
+use Rattle.replay_slots.specs.Said.{slotOf, rowOf, SlotFits, RowFits, saidOfStep}
 use Rattle.replay_answer.specs.declared.ReplayAnswer.{ReplayAnswer}
 use Rattle.replay_answer.specs.declared.ReplayAnswer.the-variants as A
-use Rattle.replay_answer.specs.Answers.{resultOf, said}
+use Rattle.replay_answer.specs.Answers.{resultOf, said, AnswerFits}
 
-pub said-injective : (r₁ r₂ : ReplayAnswer) → said r₁ ≡ said r₂ → r₁ ≡ r₂
+pub said-injective : (r₁ r₂ : ReplayAnswer) → AnswerFits r₁ → AnswerFits r₂ → said r₁ ≡ said r₂ → r₁ ≡ r₂
 unfolding said
-said-injective (A.Accepted a) (A.Accepted b) e =
-    let r : resultOf a ≡ resultOf b = cc in
-    λ i. A.Accepted (record {
-      conclusion = record { positive = record { 0 = r i .conclusion .positive }; negative = record { 0 = r i .conclusion .negative } };
-      nodes = r i .nodes;
-      steps = r i .steps;
-      peak = r i .peak;
-    })
-said-injective (A.Accepted a) (A.Refused why k) e = cc
-said-injective (A.Refused why k) (A.Accepted b) e = cc
-said-injective (A.Refused why k) (A.Refused why′ k′) e =
+said-injective (A.Accepted a) (A.Accepted b) f g e =
+    let same : resultOf a ≡ resultOf b = cc in
+    let clause = literalsOf-injective (a .conclusion) (b .conclusion) f g (ap (λ (r : Result). r .conclusion) same) in
+    λ i. A.Accepted (record { conclusion = clause i; nodes = same i .nodes; steps = same i .steps; peak = same i .peak })
+said-injective (A.Accepted a) (A.Refused why k) f g e = cc
+said-injective (A.Refused why k) (A.Accepted b) f g e = cc
+said-injective (A.Refused why k) (A.Refused why′ k′) f g e =
     let n : numberOf why ≡ numberOf why′ = cc in
     let q : k .0 ≡ k′ .0 = cc in
     λ i. A.Refused (numberOf-injective why why′ n i) (record { 0 = q i })
@@ -47,46 +45,43 @@ saidOfStep-injective S.Unfit S.Taken e = cc
 saidOfStep-injective S.Unfit (S.Refused why k) e = cc
 saidOfStep-injective S.Unfit S.Unfit e = refl
 
-pub slotOf-injective : (s₁ s₂ : CodeSlot) → slotOf s₁ ≡ slotOf s₂ → s₁ ≡ s₂
-slotOf-injective s₁ s₂ e =
-    λ i. record {
-      used = e i .used;
-      node = e i .node;
-      clause = record { positive = record { 0 = e i .clause .positive }; negative = record { 0 = e i .clause .negative } };
-    }
+pub slotOf-injective : (s₁ s₂ : CodeSlot) → SlotFits s₁ → SlotFits s₂ → slotOf s₁ ≡ slotOf s₂ → s₁ ≡ s₂
+slotOf-injective s₁ s₂ f g e =
+    let clause = literalsOf-injective (s₁ .clause) (s₂ .clause) f g (ap (λ (s : Slot). s .clause) e) in
+    λ i. record { used = e i .used; node = e i .node; clause = clause i }
 
 pub tallyOf-injective : (t₁ t₂ : CodeTally) → tallyOf t₁ ≡ tallyOf t₂ → t₁ ≡ t₂
 tallyOf-injective t₁ t₂ e = λ i. record { next = e i .next; held = e i .held; peak = e i .peak; steps = e i .steps }
 
-pub rowOf-injective : (ys zs : List CodeSlot) → rowOf ys ≡ rowOf zs → ys ≡ zs
+pub rowOf-injective : (ys zs : List CodeSlot) → RowFits ys → RowFits zs → rowOf ys ≡ rowOf zs → ys ≡ zs
 unfolding rowOf
-rowOf-injective [] [] e = refl
-rowOf-injective [] (z ∷ zs) e = cc
-rowOf-injective (y ∷ ys) [] e = cc
-rowOf-injective (y ∷ ys) (z ∷ zs) e =
+rowOf-injective [] [] f g e = refl
+rowOf-injective [] (z ∷ zs) f g e = cc
+rowOf-injective (y ∷ ys) [] f g e = cc
+rowOf-injective (y ∷ ys) (z ∷ zs) f g e =
     let first : slotOf y ≡ slotOf z = cc in
     let others : rowOf ys ≡ rowOf zs = cc in
-    ap₂ (λ (x : CodeSlot) (xs : List CodeSlot). x ∷ xs) (slotOf-injective y z first) (rowOf-injective ys zs others)
+    ap₂ (λ (x : CodeSlot) (xs : List CodeSlot). x ∷ xs) (slotOf-injective y z (f .0) (g .0) first) (rowOf-injective ys zs (f .1) (g .1) others)
 
 -- two answers, tallies and rows that a step's promise admits are one
 pub step-unique : (o : Stepped) (r₁ r₂ : StepAnswer) (t₁ t₂ : CodeTally) (ys zs : List CodeSlot)
-    → stepped (saidOfStep r₁) (state (tallyOf t₁) (rowOf ys)) ≡ o
-    → stepped (saidOfStep r₂) (state (tallyOf t₂) (rowOf zs)) ≡ o
+    → RowFits ys × (stepped (saidOfStep r₁) (state (tallyOf t₁) (rowOf ys)) ≡ o)
+    → RowFits zs × (stepped (saidOfStep r₂) (state (tallyOf t₂) (rowOf zs)) ≡ o)
     → (r₁ ≡ r₂) × (t₁ ≡ t₂) × (ys ≡ zs)
 step-unique o r₁ r₂ t₁ t₂ ys zs p q =
-    let e = p ∙ sym q in (
+    let e = p .1 ∙ sym (q .1) in (
       saidOfStep-injective r₁ r₂ (ap (λ (x : Stepped). x .answer) e),
       tallyOf-injective t₁ t₂ (ap (λ (x : Stepped). x .state .tally) e),
-      rowOf-injective ys zs (ap (λ (x : Stepped). x .state .slots) e),
+      rowOf-injective ys zs (p .0) (q .0) (ap (λ (x : Stepped). x .state .slots) e),
     )
 
 -- and two answers and rows that the replay's promise admits
 pub replay-unique : (o : Outcome) (r₁ r₂ : ReplayAnswer) (ys zs : List CodeSlot)
-    → outcome (said r₁) (rowOf ys) ≡ o
-    → outcome (said r₂) (rowOf zs) ≡ o
+    → AnswerFits r₁ × RowFits ys × (outcome (said r₁) (rowOf ys) ≡ o)
+    → AnswerFits r₂ × RowFits zs × (outcome (said r₂) (rowOf zs) ≡ o)
     → (r₁ ≡ r₂) × (ys ≡ zs)
 replay-unique o r₁ r₂ ys zs p q =
-    let e = p ∙ sym q in (
-      said-injective r₁ r₂ (ap (λ (x : Outcome). x .answer) e),
-      rowOf-injective ys zs (ap (λ (x : Outcome). x .slots) e),
+    let e = p .2 ∙ sym (q .2) in (
+      said-injective r₁ r₂ (p .0) (q .0) (ap (λ (x : Outcome). x .answer) e),
+      rowOf-injective ys zs (p .1) (q .1) (ap (λ (x : Outcome). x .slots) e),
     )

@@ -4,7 +4,7 @@ ghost use mathlib.Core.Path.{_≡_};
 ghost use Prim.Native.Nat.{_/_};
 ghost use lib.ListN.{length};
 ghost use Rattle.sheet.specs.declared.Verdict.the-variants.{Fine};
-ghost use Rattle.sheet.specs.Editions.{narrow, recordBytes, replayRecords};
+ghost use Rattle.sheet.specs.Editions.{recordBytes, replayRecords};
 ghost use Rattle.sheet.specs.Checks.{checkLengths};
 ghost use Rattle.tally.specs.Tally.{nothing};
 ghost use Rattle.tally.specs.Said.{tallyOf};
@@ -16,6 +16,7 @@ use replay_answer::ReplayAnswer;
 use replay_slots::Slot;
 use sheet::RecordNo;
 use sheet::Verdict;
+use sheet::edition::Edition;
 use tally::Tally;
 
 pub struct Ran {
@@ -23,17 +24,18 @@ pub struct Ran {
     pub tally: Tally,
 }
 
-pub(crate) fn run(sheet: &[u8], rules: &[u8], slots: &mut [Slot]) -> Ran
-    requires { ⌜ checkLengths narrow (replayRecords narrow) (length (now sheet)) (length (now rules)) ≡ Fine ⌝ }
-    ensures { λ r. ⌜ ran (said (r .answer)) (state (tallyOf (r .tally)) (rowOf (now (slots .exit)))) ≡ ranThrough narrow (now (rules .entry)) (now (sheet .entry)) (length (now (sheet .entry)) / recordBytes narrow) 0 (state nothing (rowOf (now (slots .entry)))) ⌝ }
+pub(crate) fn run(edition: Edition, sheet: &[u8], rules: &[u8], slots: &mut [Slot]) -> Ran
+    requires { ⌜ checkLengths edition (replayRecords edition) (length (now sheet)) (length (now rules)) ≡ Fine ⌝ }
+    ensures { λ r. ⌜ ran (said (r .answer)) (state (tallyOf (r .tally)) (rowOf (now (slots .exit)))) ≡ ranThrough edition (now (rules .entry)) (now (sheet .entry)) (length (now (sheet .entry)) / recordBytes edition) 0 (state nothing (rowOf (now (slots .entry)))) ⌝ }
 {
-    let records = sheet.len() / sheet::limits::RECORD_BYTES;
+    let bytes = edition.record_bytes();
+    let records = sheet.len() / bytes;
     let mut t = tally::nothing();
     let mut k = 0;
     while k < records {
-        let at = sheet::limits::RECORD_BYTES * k;
-        let end = at + sheet::limits::RECORD_BYTES;
-        let verdict = replay_step::take(slots, &mut t, rules, &sheet[at..end]);
+        let at = bytes * k;
+        let end = at + bytes;
+        let verdict = replay_step::take(edition, slots, &mut t, rules, &sheet[at..end]);
         if replay_answer::passes(verdict) {
             k += 1;
         } else {

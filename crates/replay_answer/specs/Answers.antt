@@ -1,6 +1,6 @@
 -- What the replay's answer says: the paper's number and values for each case; and how a replay ends.
 use Prim.Native.Nat.{ℕ}
-use Rattle.clause.specs.Denote.{literalsOf}
+use Rattle.clause.specs.Denote.{literalsOf, ClauseFits}
 use Rattle.sheet.specs.declared.Verdict.{Verdict}
 use Rattle.sheet.specs.declared.Verdict.the-variants as D
 use Rattle.sheet.specs.Reasons.{numberOf}
@@ -17,6 +17,11 @@ resultOf r = record { conclusion = literalsOf (r .conclusion); nodes = r .nodes;
 unfoldable pub said : ReplayAnswer → Answer
 said (A.Accepted r) = accepted (resultOf r)
 said (A.Refused why k) = refused (numberOf why) (k .0)
+
+-- words that are words
+abbrev pub AnswerFits : ReplayAnswer → Type 0
+AnswerFits (A.Accepted r) = ClauseFits (r .conclusion)
+AnswerFits (A.Refused why k) = Unit {0}
 
 -- refused at record k; or after k records, by what is found of the last node
 unfoldable pub ended : Verdict → ℕ → Tally → Place → Answer

@@ -4,7 +4,7 @@ use mathlib.Core.List.{List}
 use Prim.Native.Nat.{ℕ}
 use Rattle.sheet.specs.declared.Verdict.{Verdict}
 use Rattle.sheet.specs.declared.Verdict.the-variants.{Fine, Refused}
-use Rattle.sheet.specs.Editions.{Edition}
+use Rattle.sheet.specs.declared.edition.Edition.{Edition}
 use Rattle.sheet.specs.Records.{given, step, Record, node, drop, Reading, reads, unread}
 use Rattle.replay_spec.specs.Slots.{Slot, put, held, clauseHeld, room, look, hold, release}
 use Rattle.replay_spec.specs.Step.{State, state, checkHeld, checkRoom, checkRecord, stored, after, byVerdict, byReading, Judged, judged, byTurn}

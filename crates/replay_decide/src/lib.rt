@@ -4,7 +4,7 @@ ghost use mathlib.Core.Path.{_≡_};
 ghost use Prim.Native.Nat.{_<_, _≤_};
 ghost use mathlib.Core.Bool.{true};
 ghost use lib.ListN.{length};
-ghost use Rattle.sheet.specs.Editions.{narrow, recordBytes, replayRecords};
+ghost use Rattle.sheet.specs.Editions.{recordBytes, mostRecords};
 ghost use Rattle.sheet.specs.Fields.{reading};
 ghost use Rattle.sheet.specs.Denote.{recordOf, readingOf};
 ghost use Rattle.tally.specs.Said.{tallyOf};
@@ -20,14 +20,15 @@ use sheet::Reading;
 use sheet::Record;
 use sheet::RecordNo;
 use sheet::Verdict;
+use sheet::edition::Edition;
 use tally::Tally;
 
 // The record that a replay's bytes are: drops read too.
-pub fn read(bytes: &[u8]) -> Reading
-    requires { ⌜ recordBytes narrow ≤ length (now bytes) ⌝ }
-    ensures { λ w. ⌜ readingOf w ≡ reading narrow true (now (bytes .entry)) ⌝ }
+pub fn read(edition: Edition, bytes: &[u8]) -> Reading
+    requires { ⌜ recordBytes edition ≤ length (now bytes) ⌝ }
+    ensures { λ w. ⌜ readingOf w ≡ reading edition true (now (bytes .entry)) ⌝ }
 {
-    sheet_read::read_record(bytes, true)
+    sheet_read::read_record(edition, bytes, true)
 }
 
 // A step names its left parent, and a drop its node.
@@ -117,6 +118,7 @@ fn kept(verdict: Verdict, t: Tally) -> Decided
 
 // What a record comes to.
 pub fn decide(
+    edition: Edition,
     t: Tally,
     rules: &[u8],
     reading: Reading,
@@ -124,14 +126,14 @@ pub fn decide(
     right: Place,
     vacant: Place,
 ) -> Decided
-    requires { ⌜ (t .next < replayRecords narrow) × (t .held ≤ t .next) × (t .steps ≤ t .next) ⌝ }
-    ensures { λ d. ⌜ decidedOf d ≡ decided narrow (now (rules .entry)) (tallyOf t) (readingOf reading) (placeOf left) (placeOf right) (placeOf vacant) ⌝ }
+    requires { ⌜ (t .next < mostRecords) × (t .held ≤ t .next) × (t .steps ≤ t .next) ⌝ }
+    ensures { λ d. ⌜ decidedOf d ≡ decided edition (now (rules .entry)) (tallyOf t) (readingOf reading) (placeOf left) (placeOf right) (placeOf vacant) ⌝ }
 {
     let Reading::Reads(r) = reading else {
         return kept(sheet_read::verdict_of(reading), t);
     };
     let next = NodeNo(t.next);
-    let verdict = replay_verdict::check_record(rules, next, r, left, right, vacant);
+    let verdict = replay_verdict::check_record(edition, rules, next, r, left, right, vacant);
     let Verdict::Fine = verdict else {
         return kept(verdict, t);
     };

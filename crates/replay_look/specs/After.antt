@@ -2,14 +2,14 @@
 use Prim.Native.Nat.{ℕ, zero, suc}
 use mathlib.Core.List.{List}
 use lib.ListN.{getD}
-use Rattle.sheet.specs.Editions.{Edition}
+use Rattle.sheet.specs.declared.edition.Edition.{Edition}
 use Rattle.sheet.specs.Fields.{recordAt}
 use Rattle.tally.specs.Tally.{Tally}
 use Rattle.tally.specs.Said.{tallyOf}
 use Rattle.replay_spec.specs.Slots.{Slot, empty}
 use Rattle.replay_spec.specs.Step.{State, Step, taken, Stepped, stepped, oneStep}
 use Rattle.replay_spec.specs.Steps.{afterSteps}
-use Rattle.replay_slots.specs.Said.{saidOfStep, slotOf}
+use Rattle.replay_slots.specs.Said.{saidOfStep, slotOf, SlotFits}
 use Rattle.replay_look.specs.declared.Look.{Look as CodeLook}
 
 -- the last record's answer, and the tally and the slots then; with no record, nothing is refused
@@ -31,3 +31,7 @@ lookAt at a = look (a .answer) (a .state .tally) (getD (a .state .slots) at empt
 
 abbrev pub lookOf : CodeLook → Look
 lookOf l = look (saidOfStep (l .answer)) (tallyOf (l .tally)) (slotOf (l .slot))
+
+-- words that are words
+abbrev pub LookFits : CodeLook → Type 0
+LookFits l = SlotFits (l .slot)

@@ -3,7 +3,7 @@
 ghost use mathlib.Core.Path.{_≡_};
 ghost use Prim.Native.Nat.{_/_, min};
 ghost use lib.ListN.{length, replicate};
-ghost use Rattle.sheet.specs.Editions.{narrow, recordBytes, replayRecords};
+ghost use Rattle.sheet.specs.Editions.{recordBytes, mostRecords};
 ghost use Rattle.tally.specs.Tally.{nothing};
 ghost use Rattle.replay_spec.specs.Slots.{empty};
 ghost use Rattle.replay_spec.specs.Step.{state, taken};
@@ -14,6 +14,7 @@ use replay_slots::Slot;
 use replay_slots::StepAnswer;
 use sheet::RecordNo;
 use sheet::SlotNo;
+use sheet::edition::Edition;
 use tally::Tally;
 
 pub struct Look {
@@ -23,10 +24,10 @@ pub struct Look {
 }
 
 // No more records than the sheet has whole.
-fn upto(records: usize, bytes: usize) -> usize
-    ensures { λ n. ⌜ n ≡ min records (bytes / recordBytes narrow) ⌝ }
+fn upto(edition: Edition, records: usize, bytes: usize) -> usize
+    ensures { λ n. ⌜ n ≡ min records (bytes / recordBytes edition) ⌝ }
 {
-    let whole = bytes / sheet::limits::RECORD_BYTES;
+    let whole = edition.records_in(bytes);
     if records < whole { records } else { whole }
 }
 
@@ -37,17 +38,32 @@ fn untried() -> StepAnswer
     StepAnswer::Taken
 }
 
-fn look_from(sheet: &[u8], rules: &[u8], slots: &mut [Slot], records: usize, at: SlotNo) -> Look
-    ensures { λ r. ⌜ lookOf r ≡ lookAt (at .0) (afterRecords narrow (now (rules .entry)) (now (sheet .entry)) (state nothing (rowOf (now (slots .entry)))) (min records (length (now (sheet .entry)) / recordBytes narrow))) ⌝ }
+fn look_from(
+    edition: Edition,
+    sheet: &[u8],
+    rules: &[u8],
+    slots: &mut [Slot],
+    records: usize,
+    at: SlotNo,
+) -> Look
+    ensures { λ r. ⌜ lookOf r ≡ lookAt (at .0) (afterRecords edition (now (rules .entry)) (now (sheet .entry)) (state nothing (rowOf (now (slots .entry)))) (min records (length (now (sheet .entry)) / recordBytes edition))) ⌝ }
 {
-    let n = upto(records, sheet.len());
+    let bytes = edition.record_bytes();
+    let n = upto(edition, records, sheet.len());
     let mut t = tally::nothing();
     let mut answer = untried();
     let mut k = 0;
     while k < n {
-        let from = sheet::limits::RECORD_BYTES * k;
-        let end = from + sheet::limits::RECORD_BYTES;
-        answer = replay_step::step(slots, &mut t, rules, &sheet[from..end], RecordNo(k));
+        let from = bytes * k;
+        let end = from + bytes;
+        answer = replay_step::step(
+            edition,
+            slots,
+            &mut t,
+            rules,
+            &sheet[from..end],
+            RecordNo(k),
+        );
         k += 1;
     }
     Look {
@@ -57,12 +73,19 @@ fn look_from(sheet: &[u8], rules: &[u8], slots: &mut [Slot], records: usize, at:
     }
 }
 
-// In a row of as many slots, but of no more than there may be records.
-pub fn look_after(sheet: &[u8], rules: &[u8], slots: usize, records: usize, at: SlotNo) -> Look
-    ensures { λ r. ⌜ lookOf r ≡ lookAt (at .0) (afterRecords narrow (now (rules .entry)) (now (sheet .entry)) (state nothing (replicate (min slots (replayRecords narrow)) empty)) (min records (length (now (sheet .entry)) / recordBytes narrow))) ⌝ }
+// In a row of as many slots, but of no more than there may be records in any edition.
+pub fn look_after(
+    edition: Edition,
+    sheet: &[u8],
+    rules: &[u8],
+    slots: usize,
+    records: usize,
+    at: SlotNo,
+) -> Look
+    ensures { λ r. ⌜ lookOf r ≡ lookAt (at .0) (afterRecords edition (now (rules .entry)) (now (sheet .entry)) (state nothing (replicate (min slots mostRecords) empty)) (min records (length (now (sheet .entry)) / recordBytes edition))) ⌝ }
 {
     let none = replay_slots::empty();
-    let mut row = [none; sheet::limits::REPLAY_RECORDS];
+    let mut row = [none; sheet::limits::MOST_RECORDS];
     let n = own::enough(slots);
-    look_from(sheet, rules, &mut row[..n], records, at)
+    look_from(edition, sheet, rules, &mut row[..n], records, at)
 }

@@ -39,7 +39,7 @@ abbrev pub pv : Place → Val
 pv = EL.val F.the-type F′.the-laws
 
 abbrev pub blank : Slot
-blank = record { used = 0; node = 0; clause = record { positive = record { 0 = 0 }; negative = record { 0 = 0 } } }
+blank = record { used = 0; node = 0; clause = record { positive = record { low = 0; high = 0 }; negative = record { low = 0; high = 0 } } }
 
 pub blank-is : slotOf blank ≡ empty
 blank-is = refl
@@ -51,8 +51,12 @@ number i = record { 0 = i }
 pub number-is : (i : ℕ) → i < 2 ^ 64 → Is N.the-row (number i) (nv (number i) ∷ [])
 number-is i fits = LL.owes N.the-type N′.the-laws (number i) ((refl, fits), tt)
 
--- i · 24 fits a word, where i is below a length that has room
-pub mul-fits : (i n : ℕ) → i < n → Room T.the-row n → i * 24 < 2 ^ 64
+-- the bytes of a slot: two numbers of four bytes, and four words
+abbrev pub slot-bytes : ℕ
+slot-bytes = 40
+
+-- where i is below a length that has room, the bytes before slot i fit a word
+pub mul-fits : (i n : ℕ) → i < n → Room T.the-row n → i * slot-bytes < 2 ^ 64
 mul-fits i n l room = omega (arith, l, room .1)
 
 -- a row with a slot put into it is as long

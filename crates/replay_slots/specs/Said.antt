@@ -1,6 +1,6 @@
 -- What the code's values are, and what a step's answer says: the paper's number and values for each case.
-use mathlib.Core.List.{List, map}
-use Rattle.clause.specs.Denote.{literalsOf}
+use mathlib.Core.List.{List, [], _∷_, map}
+use Rattle.clause.specs.Denote.{literalsOf, ClauseFits}
 use Rattle.sheet.specs.declared.Verdict.{Verdict}
 use Rattle.sheet.specs.Reasons.{numberOf}
 use Rattle.tally.specs.Tally.{Tally}
@@ -22,6 +22,14 @@ slotOf s = slot (s .used) (s .node) (literalsOf (s .clause))
 -- the row that a lent slice of slots is
 unfoldable pub rowOf : List CodeSlot → List Slot
 rowOf slots = map slotOf slots
+
+-- words that are words, in a slot and in a row of slots
+abbrev pub SlotFits : CodeSlot → Type 0
+SlotFits s = ClauseFits (s .clause)
+
+abbrev pub RowFits : List CodeSlot → Type 0
+RowFits [] = Unit {0}
+RowFits (s ∷ slots) = SlotFits s × RowFits slots
 
 abbrev pub placeOf : CodePlace → Place
 placeOf P.Nowhere = nowhere

@@ -13,7 +13,7 @@ use sheet::Verdict;
 use tally::Tally;
 
 // A slot of the row: a mark of use (not zero: in use), a node's number, and its clause's two sets. A free slot is all zero. Each of its
-// 24 bytes belongs to a field, so that zero fields are zero bytes; `in_use` and `holds` alone know that a node's number is wider here.
+// 40 bytes belongs to a field, so that zero fields are zero bytes; `in_use` and `holds` alone know that a node's number is wider here.
 #[repr(C)]
 pub struct Slot {
     pub used: u32,

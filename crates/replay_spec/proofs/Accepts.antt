@@ -12,12 +12,14 @@ use lib.Seq.{take-length, append-snoc, ext-getD}
 use borrow.Author.Tests.{ltb-true, le-ltb}
 use Rattle.clause.specs.Clauses.{none}
 use Rattle.sheet.specs.declared.Reason.the-variants.{Full}
-use Rattle.sheet.specs.Editions.{Edition, narrow, recordBytes, replayRecords}
+use Rattle.sheet.specs.declared.edition.Edition.{Edition}
+use Rattle.sheet.specs.Editions.{recordBytes, replayRecords}
 use Rattle.sheet.specs.Reasons.{numberOf}
 use Rattle.sheet.specs.Records.{given, Record, node, drop, reads}
 use Rattle.sheet.specs.Fields.{reading, recordAt}
 use Rattle.sheet.specs.Counts.{nodesOf, stepsOf, peakFrom, firstOver}
 use Rattle.sheet.specs.Proper.{recordIn, Held, ProperAfter, ReadsAs, Proper, conclusionOf}
+use Rattle.sheet.proofs.Sizes.{same-count}
 use Rattle.sheet.proofs.Fine.{Lengths}
 use Rattle.tally.specs.Tally.{counted}
 use Rattle.replay_spec.specs.Slots.{Slot, holding, Place, nowhere, at, isPlace, slotIn, find, look, lastOf, held, clauseHeld, room}
@@ -199,9 +201,6 @@ replay-accepts e sheet rules slots =
     (proper-accepted e sheet rules slots, λ r. accepted-proper e sheet rules r slots)
 
 -- ---- the records that the bytes read as
-
-same-count : (e : Edition) (i j : ℕ) → recordBytes e * i ≡ recordBytes e * j → i ≡ j
-same-count narrow i j q = omega arith
 
 pub reads-once : (e : Edition) (drops : Bool) (sheet : List ℕ) (rs rs′ : List Record) → ReadsAs e drops sheet rs → ReadsAs e drops sheet rs′ → rs ≡ rs′
 reads-once e drops sheet rs rs′ a b =

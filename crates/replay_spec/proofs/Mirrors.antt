@@ -14,7 +14,8 @@ use borrow.Author.Tests.{lt-ltb}
 use Rattle.clause.specs.Clauses.{none}
 use Rattle.sheet.specs.declared.Reason.the-variants.{Dropped, Full}
 use Rattle.sheet.specs.declared.Verdict.the-variants.{Fine, Refused}
-use Rattle.sheet.specs.Editions.{Edition, replayRecords}
+use Rattle.sheet.specs.declared.edition.Edition.{Edition}
+use Rattle.sheet.specs.Editions.{replayRecords}
 use Rattle.sheet.specs.Reasons.{unless, andThen}
 use Rattle.sheet.specs.Records.{Node, given, step, Record, node, drop, clause, reads}
 use Rattle.sheet.specs.Fields.{reading, recordAt}

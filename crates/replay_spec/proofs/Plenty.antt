@@ -12,7 +12,8 @@ use Rattle.sheet.specs.declared.Reason.{Reason}
 use Rattle.sheet.specs.declared.Reason.the-variants.{Dropped}
 use Rattle.sheet.specs.declared.Verdict.{Verdict}
 use Rattle.sheet.specs.declared.Verdict.the-variants.{Fine, Refused}
-use Rattle.sheet.specs.Editions.{Edition, recordBytes, replayRecords}
+use Rattle.sheet.specs.declared.edition.Edition.{Edition}
+use Rattle.sheet.specs.Editions.{recordBytes, replayRecords}
 use Rattle.sheet.specs.Records.{given, step, Record, node, drop, clause, Reading, reads, unread}
 use Rattle.sheet.specs.Fields.{reading, recordAt}
 use Rattle.sheet.specs.Checks.{checkLengths}
@@ -161,11 +162,12 @@ module _ (e : Edition) (sheet rules : List ℕ) where
   pub replay-plenty : (row others : List Slot) → replayRecords e ≤ length row → replayRecords e ≤ length others → replay e sheet rules row .answer ≡ replay e sheet rules others .answer
   replay-plenty row others h i = replay-enough row h ∙ sym (replay-enough others i)
 
-  -- so a replay in a row of its own needs no more
-  pub replay-at-most : (slots : ℕ) → replay e sheet rules (replicate (min slots (replayRecords e)) empty) .answer ≡ replay e sheet rules (replicate slots empty) .answer
-  replay-at-most slots = elim (decLt slots (replayRecords e)) [
-    | yes l ↦ let q : min slots (replayRecords e) ≡ slots = omega arith in ap (λ (k : ℕ). replay e sheet rules (replicate k empty) .answer) q
+  -- so a replay in a row of its own needs no more, nor than any larger number, such as one that is enough for every edition
+  pub replay-at-most : (most slots : ℕ) → replayRecords e ≤ most
+      → replay e sheet rules (replicate (min slots most) empty) .answer ≡ replay e sheet rules (replicate slots empty) .answer
+  replay-at-most most slots enough = elim (decLt slots most) [
+    | yes l ↦ let q : min slots most ≡ slots = omega arith in ap (λ (k : ℕ). replay e sheet rules (replicate k empty) .answer) q
     | no l ↦
-        replay-plenty (replicate (min slots (replayRecords e)) empty) (replicate slots empty)
-        (omega (arith, length-replicate (min slots (replayRecords e)) empty)) (omega (arith, length-replicate slots empty))
+        replay-plenty (replicate (min slots most) empty) (replicate slots empty)
+        (omega (arith, length-replicate (min slots most) empty, enough)) (omega (arith, length-replicate slots empty, enough))
   ]

@@ -12,7 +12,7 @@ use lib.ListN.{length, getD, take, length-append, List·getD-append}
 use lib.Seq.{append-snoc, getD-at}
 use borrow.Author.Tests.{ltb-true, ltb-false}
 use Rattle.clause.specs.Clauses.{none}
-use Rattle.sheet.specs.Editions.{Edition}
+use Rattle.sheet.specs.declared.edition.Edition.{Edition}
 use Rattle.sheet.specs.Records.{Node, given, Record, node, drop, clause, nodeAt}
 use Rattle.sheet.specs.Counts.{nodesOf, heldFrom, peakFrom, firstOver}
 use Rattle.sheet.specs.Proper.{recordIn, clauseIn, Held, ProperAfter}

@@ -12,7 +12,8 @@ use Rattle.clause.specs.Clauses.{Literals, none}
 use Rattle.clause.specs.Truth.{Setting, Satisfies}
 use Rattle.clause.proofs.Clauses.{holds-none}
 use Rattle.clause.proofs.Truth.{resolvent-true}
-use Rattle.sheet.specs.Editions.{Edition, replayRecords}
+use Rattle.sheet.specs.declared.edition.Edition.{Edition}
+use Rattle.sheet.specs.Editions.{replayRecords}
 use Rattle.sheet.specs.Records.{Node, given, step, Record, node, drop, clause}
 use Rattle.sheet.specs.Fields.{ruleLine}
 use Rattle.sheet.specs.Counts.{nodesOf}

@@ -13,12 +13,14 @@ use Rattle.base.proofs.Bytes.{length-part}
 use Rattle.sheet.specs.declared.Reason.{Reason}
 use Rattle.sheet.specs.declared.Verdict.{Verdict}
 use Rattle.sheet.specs.declared.Verdict.the-variants.{Fine, Refused}
-use Rattle.sheet.specs.Editions.{Edition, narrow, recordBytes, replayRecords}
+use Rattle.sheet.specs.declared.edition.Edition.{Edition}
+use Rattle.sheet.specs.Editions.{recordBytes, replayRecords}
 use Rattle.sheet.specs.Reasons.{numberOf}
 use Rattle.sheet.specs.Records.{given, step, Record, node, drop, Reading, reads, unread}
 use Rattle.sheet.specs.Fields.{reading, recordAt}
 use Rattle.sheet.specs.Counts.{stepOf}
 use Rattle.sheet.specs.Checks.{checkTable, checkLengths}
+use Rattle.sheet.proofs.Sizes.{record-inside, record-count}
 use Rattle.sheet.proofs.Fine.{Lengths, lengths-fine, fine-lengths, fine-table}
 use Rattle.tally.specs.Tally.{Tally, counted}
 use Rattle.replay_spec.specs.Slots.{Slot, cleared}
@@ -74,10 +76,7 @@ module _ (e : Edition) (sheet rules : List ℕ) (slots : List Slot) where
   unfolding replay byLengths
   replay-runs n l =
       rw (fine-lengths e (replayRecords e) (length sheet) (length rules) n l)
-      (ap (λ (k : ℕ). run e rules sheet k 0 (start slots)) (ap (λ (k : ℕ). k / recordBytes e) (l .0) ∙ count e n))
-    where
-      count : (f : Edition) (k : ℕ) → recordBytes f * k / recordBytes f ≡ k
-      count narrow k = omega arith
+      (ap (λ (k : ℕ). run e rules sheet k 0 (start slots)) (ap (λ (k : ℕ). k / recordBytes e) (l .0) ∙ record-count e (recordBytes e * n) n refl))
 
   -- past them the slots end free, whatever is answered
   pub replay-clears : checkLengths e (replayRecords e) (length sheet) (length rules) ≡ Fine
@@ -160,9 +159,6 @@ taken-fine : (k : ℕ) (v : Verdict) → answered k v ≡ taken → v ≡ Fine
 unfolding answered
 taken-fine k Fine h = refl
 taken-fine k (Refused why) h = cc
-
-record-inside : (e : Edition) (k n : ℕ) → k < n → recordBytes e * k + recordBytes e ≤ recordBytes e * n
-record-inside narrow k n h = omega arith
 
 -- record k of a sheet of n, in a state that is within
 module _ (e : Edition) (sheet rules : List ℕ) (n : ℕ) (l : Lengths e (replayRecords e) (length sheet) (length rules) n)

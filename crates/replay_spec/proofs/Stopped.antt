@@ -8,7 +8,8 @@ use lib.ListN.{length}
 use Rattle.sheet.specs.declared.Reason.{Reason}
 use Rattle.sheet.specs.declared.Verdict.{Verdict}
 use Rattle.sheet.specs.declared.Verdict.the-variants.{Fine, Refused}
-use Rattle.sheet.specs.Editions.{Edition, replayRecords}
+use Rattle.sheet.specs.declared.edition.Edition.{Edition}
+use Rattle.sheet.specs.Editions.{replayRecords}
 use Rattle.sheet.specs.Fields.{recordAt}
 use Rattle.sheet.proofs.Fine.{Lengths}
 use Rattle.replay_spec.specs.Slots.{Slot}

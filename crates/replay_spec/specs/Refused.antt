@@ -6,7 +6,8 @@ use mathlib.Core.Logic.{_⊎_}
 use mathlib.Core.List.{List}
 use lib.ListN.{length}
 use Rattle.sheet.specs.declared.Reason.the-variants.{Full, NotHeld}
-use Rattle.sheet.specs.Editions.{Edition, recordBytes, replayRecords}
+use Rattle.sheet.specs.declared.edition.Edition.{Edition}
+use Rattle.sheet.specs.Editions.{recordBytes, replayRecords}
 use Rattle.sheet.specs.Reasons.{numberOf}
 use Rattle.sheet.specs.Records.{Record}
 use Rattle.sheet.specs.Counts.{nodesOf, heldFrom, peakFrom}

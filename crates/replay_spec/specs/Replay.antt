@@ -6,7 +6,8 @@ use Rattle.clause.specs.Clauses.{Literals}
 use Rattle.sheet.specs.declared.Reason.the-variants.{NotHeld}
 use Rattle.sheet.specs.declared.Verdict.{Verdict}
 use Rattle.sheet.specs.declared.Verdict.the-variants.{Fine, Refused}
-use Rattle.sheet.specs.Editions.{Edition, recordBytes, replayRecords}
+use Rattle.sheet.specs.declared.edition.Edition.{Edition}
+use Rattle.sheet.specs.Editions.{recordBytes, replayRecords}
 use Rattle.sheet.specs.Reasons.{numberOf}
 use Rattle.sheet.specs.Fields.{recordAt}
 use Rattle.sheet.specs.Checks.{checkLengths}

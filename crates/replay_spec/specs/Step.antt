@@ -8,7 +8,8 @@ use Rattle.sheet.specs.declared.Reason.{Reason}
 use Rattle.sheet.specs.declared.Reason.the-variants.{Dropped, Full}
 use Rattle.sheet.specs.declared.Verdict.{Verdict}
 use Rattle.sheet.specs.declared.Verdict.the-variants.{Fine, Refused}
-use Rattle.sheet.specs.Editions.{Edition, recordBytes, replayRecords}
+use Rattle.sheet.specs.declared.edition.Edition.{Edition}
+use Rattle.sheet.specs.Editions.{recordBytes, replayRecords}
 use Rattle.sheet.specs.Reasons.{numberOf, unless, andThen}
 use Rattle.sheet.specs.Records.{given, step, Record, node, drop, clause, Reading, reads, unread}
 use Rattle.sheet.specs.Fields.{reading}

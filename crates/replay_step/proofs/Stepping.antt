@@ -1,8 +1,8 @@
 -- What a walk that has the row and the tally open says at a call of `take` or of `step`: one step each. All that it knows of them is that each meets its contract.
---     call-both    a callee that takes the row and the tally as `&mut` and two shared slices, at the lifetimes of those: their tokens come back, and what they own is spent. The row and the tally are then some zs and t, and the answer is `val r` for some r, of which the contract says φ
---     call-take    `take(&mut slots, &mut tally, rules, bytes)`, of what fits
+--     call-both    a callee that takes the edition, the row and the tally as `&mut` and two shared slices, at the lifetimes of those: their tokens come back, and what they own is spent. The row and the tally are then some zs and t, and the answer is `val r` for some r, of which the contract says φ
+--     call-take    `take(edition, &mut slots, &mut tally, rules, bytes)`, of what fits
 --     call-take-at the same with record k of a sheet that is lent: what sheet and rules own is had again
---     call-step    `step(&mut slots, &mut tally, rules, bytes, number)`
+--     call-step    `step(edition, &mut slots, &mut tally, rules, bytes, number)`
 --     call-step-at the same with record k of a sheet that is lent: what sheet and rules own is had again
 -- Assumes `Given`.
 use mathlib.Core.Path.{_≡_, refl, ap, subst, sym}
@@ -49,7 +49,10 @@ use Rattle.sheet.specs.declared.RecordNo.{RecordNo}
 use Rattle.sheet.specs.declared.Verdict.{Verdict}
 use Rattle.sheet.proofs.Verdict as J
 use Rattle.sheet.proofs.Verdict.Laws as J′
-use Rattle.sheet.specs.Editions.{narrow, recordBytes}
+use Rattle.sheet.specs.declared.edition.Edition.{Edition}
+use Rattle.sheet.specs.Editions.{recordBytes}
+use Rattle.sheet.proofs.edition.Edition as N
+use Rattle.sheet.proofs.edition.Edition.Laws as N′
 use Rattle.sheet.proofs.RecordNo as R
 use Rattle.sheet.proofs.RecordNo.Laws as R′
 use Rattle.tally.specs.Said.{tallyOf}
@@ -64,19 +67,19 @@ use Rattle.replay_slots.proofs.StepAnswer as S
 use Rattle.replay_slots.proofs.StepAnswer.Laws as S′
 use Rattle.sheet.proofs.RecordBytes.{lent}
 use Rattle.replay_step.proofs.Going.{at-inside, number-fits}
-use Rattle.replay_step.proofs.Values.{verdict-val, step-val, record-val}
+use Rattle.replay_step.proofs.Values.{edition-val, verdict-val, step-val, record-val}
 use Rattle.replay_step.proofs.take as take
 use Rattle.replay_step.proofs.take.Symbol.{name as #take}
 use Rattle.replay_step.proofs.step as step
 use Rattle.replay_step.proofs.step.Symbol.{name as #step}
 
 -- what a record that fits comes to
-abbrev pub Takes : List ℕ → List ℕ → List Slot → Tally → Verdict → List Slot → Tally → Type 0
-Takes rules bytes ys h v zs t = judged v (state (tallyOf t) (rowOf zs)) ≡ byTurn (state (tallyOf h) (rowOf ys)) (turn narrow rules bytes (state (tallyOf h) (rowOf ys)))
+abbrev pub Takes : Edition → List ℕ → List ℕ → List Slot → Tally → Verdict → List Slot → Tally → Type 0
+Takes e rules bytes ys h v zs t = judged v (state (tallyOf t) (rowOf zs)) ≡ byTurn (state (tallyOf h) (rowOf ys)) (turn e rules bytes (state (tallyOf h) (rowOf ys)))
 
 -- what one step comes to
-abbrev pub Comes : List ℕ → List ℕ → RecordNo → List Slot → Tally → StepAnswer → List Slot → Tally → Type 0
-Comes rules bytes k ys h r zs t = stepped (saidOfStep r) (state (tallyOf t) (rowOf zs)) ≡ oneStep narrow rules bytes (k .0) (state (tallyOf h) (rowOf ys))
+abbrev pub Comes : Edition → List ℕ → List ℕ → RecordNo → List Slot → Tally → StepAnswer → List Slot → Tally → Type 0
+Comes e rules bytes k ys h r zs t = stepped (saidOfStep r) (state (tallyOf t) (rowOf zs)) ≡ oneStep e rules bytes (k .0) (state (tallyOf h) (rowOf ys))
 
 -- record k of a sheet, and the bytes that are lent for it
 abbrev pub number : ℕ → RecordNo
@@ -85,8 +88,8 @@ number k = record { 0 = k }
 pub number-is : (k : ℕ) → k < 2 ^ 64 → Is R.the-row (number k) (record-val (number k) ∷ [])
 number-is k fits = LL.owes R.the-type R′.the-laws (number k) ((refl, fits), tt)
 
-abbrev pub record-of : Lent u8 → ℕ → GName → Lent u8
-record-of sheet k γ = part-of sheet (recordBytes narrow * k) (recordBytes narrow * k + recordBytes narrow) (recordBytes narrow * k + sheet .o) γ
+abbrev pub record-of : Edition → Lent u8 → ℕ → GName → Lent u8
+record-of e sheet k γ = part-of sheet (recordBytes e * k) (recordBytes e * k + recordBytes e) (recordBytes e * k + sheet .o) γ
 
 module _ {M : Type 1} (𝓤 : URA M) (s₂ s₃ : Lent u8) (ν : ℕ) (δ : GName) (ν′ : ℕ) (δ′ : GName) (ys : List Slot) (h : Tally) (b o b′ o′ : ℕ) where
   -- what is had of the row lent for ν under δ, of the tally for ν′ under δ′, and of the two slices
@@ -109,7 +112,7 @@ module _ {M : Type 1} {𝓤 : URA M} {H : Heap 𝓤} {A : Atoms 𝓤} {K : Type 
       → ((ν : ℕ) (δ : GName) (ν′ : ℕ) (δ′ : GName) → ent 𝓤 (sep 𝓤 (mean 𝓤 H A (Lent-row 𝓤 s₂ s₃ ν δ ν′ δ′ ys h b o b′ o′)) (sep 𝓤 (mean 𝓤 H A (Lent-tally 𝓤 s₂ s₃ ν δ ν′ δ′ ys h b o b′ o′)) (mean 𝓤 H A (Lent-slices 𝓤 s₂ s₃ ν δ ν′ δ′ ys h b o b′ o′)))) (c .pre (to ν δ ν′ δ′)))
       → (S : RattleType) (val : S .Denot → Val) → Tells S (Is S) (λ y. val y ∷ []) → {X : Type 0} (row-then : X → List Slot) (tally-then : X → Tally) (others : Fml) (φ : S .Denot → List Slot → Tally → Type 0)
       → ((ν : ℕ) (δ : GName) (ν′ : ℕ) (δ′ : GName) (w : Val) → ent 𝓤 (c .post (to ν δ ν′ δ′) w) (mean 𝓤 H A (later (some (λ (r : S .Denot). (Four 𝓤 s₂ s₃ ν δ ν′ δ′ ys h b o b′ o′ ⊛ ‵ (S .own r (w ∷ [])))
-      ⊛ some (λ (ws : X). ‵ (fsep (fsep (finally T.the-row δ (row-then ws)) (feq ℕ (length (row-then ws)) (length ys))) (fsep (fres δ′ (Y.the-row .coded .code (tally-then ws))) others)) ⊛ raw (fact 𝓤 (φ r (row-then ws) (tally-then ws)))))))))
+      ⊛ some (λ (ws : X). ‵ (fsep ftrue (fsep (fsep (finally T.the-row δ (row-then ws)) (feq ℕ (length (row-then ws)) (length ys))) (fsep (fres δ′ (Y.the-row .coded .code (tally-then ws))) others))) ⊛ raw (fact 𝓤 (φ r (row-then ws) (tally-then ws)))))))))
       → ((ν : ℕ) (δ : GName) (ν′ : ℕ) (δ′ : GName) → Opds K W (raw (c .pre (to ν δ ν′ δ′)) ∷ ‵ (flent (ν ∷ []) (Held T.the-row (length ys) b o δ)) ∷ ‵ (flent (ν′ ∷ []) (Held-one (memory Y.the-row) b′ o′ δ′)) ∷ Γ) E xs (c .args (to ν δ ν′ δ′)))
       → ((r : S .Denot) (zs : List Slot) (t : Tally) → length zs ≡ length ys → φ r zs t → Is S r (val r ∷ []) → Seq K W (‵ (row T.the-row fullShare zs b o) ∷ ‵ (partAt Y.the-row fullShare t b′ o′) ∷ ‵ (flft (s₂ .life) (s₂ .share)) ∷ ‵ (flft (s₃ .life) (s₃ .share)) ∷ Γ) (lands C Λ E d (val r) rest q))
       → Seq K W (‵ (row T.the-row fullShare ys b o) ∷ ‵ (partAt Y.the-row fullShare h b′ o′) ∷ ‵ (flft (s₂ .life) (s₂ .share)) ∷ ‵ (flft (s₃ .life) (s₃ .share)) ∷ ‵ (lent-own s₂) ∷ ‵ (lent-own s₃) ∷ Γ) (runs C Λ E (seq (call f xs d) rest) q)
@@ -120,8 +123,8 @@ module _ {M : Type 1} {𝓤 : URA M} {H : Heap 𝓤} {A : Atoms 𝓤} {K : Type 
       use3 W (raw (c .pre (to ν δ ν′ δ′))) (goes ν δ ν′ δ′) $ move t (0 ∷ 2 ∷ 1 ∷ []) $
       calls-at t fm c known (to ν δ ν′ δ′) (os ν δ ν′ δ′) (λ w.
       use1 W (later (some (λ (r : S .Denot). (Four 𝓤 s₂ s₃ ν δ ν′ δ′ ys h b o b′ o′ ⊛ ‵ (S .own r (w ∷ [])))
-      ⊛ some (λ (ws : X). ‵ (fsep (fsep (finally T.the-row δ (row-then ws)) (feq ℕ (length (row-then ws)) (length ys))) (fsep (fres δ′ (Y.the-row .coded .code (tally-then ws))) others)) ⊛ raw (fact 𝓤 (φ r (row-then ws) (tally-then ws))))))) (gives ν δ ν′ δ′ w) $ await t tt $ pick t (λ r.
-      split t $ move t (1 ∷ []) $ pick t (λ ws. split t $ move t (1 ∷ []) $ heard t (φ r (row-then ws) (tally-then ws)) (λ e. fsplit t $ fsplit t $ move t (1 ∷ []) $ feqL t (λ l. move t (1 ∷ []) $ fsplit t $
+      ⊛ some (λ (ws : X). ‵ (fsep ftrue (fsep (fsep (finally T.the-row δ (row-then ws)) (feq ℕ (length (row-then ws)) (length ys))) (fsep (fres δ′ (Y.the-row .coded .code (tally-then ws))) others))) ⊛ raw (fact 𝓤 (φ r (row-then ws) (tally-then ws))))))) (gives ν δ ν′ δ′ w) $ await t tt $ pick t (λ r.
+      split t $ move t (1 ∷ []) $ pick t (λ ws. split t $ move t (1 ∷ []) $ heard t (φ r (row-then ws) (tally-then ws)) (λ e. fsplit t $ drop t $ fsplit t $ fsplit t $ move t (1 ∷ []) $ feqL t (λ l. move t (1 ∷ []) $ fsplit t $
       -- [the tally's last value; what the others leave; the row's last list; tokens and result; the row's lender's part; the tally's; …]
       move t (3 ∷ []) $ split t $ split t $ move t (2 ∷ []) $ peeks t S (Is S) (shows 𝓤 H A S) r (w ∷ []) (λ is. drop t $ move t (1 ∷ []) $ split t $ move t (1 ∷ []) $ split t $ move t (1 ∷ []) $ split t $
       -- [bytes's token 0; true 1; rules's 2; ν′'s 3; ν's 4; the tally's last value 5; what the others leave 6; the row's last list 7; the row's lender's part 8; the tally's 9; …]
@@ -139,53 +142,53 @@ module _ {M : Type 1} (𝓤 : URA M) (H : Heap 𝓤) (A : Atoms 𝓤) (mem : Mem
   abbrev pub Take : Contract 𝓤
   Take = tripleOf 𝓤 H A take.signature (take.spec 𝓤 H A mem run)
 
-  module _ (s₂ s₃ : Lent u8) (ν : ℕ) (δ : GName) (ν′ : ℕ) (δ′ : GName) (ys : List Slot) (h : Tally) (b o b′ o′ : ℕ) where
+  module _ (e : Edition) (s₂ s₃ : Lent u8) (ν : ℕ) (δ : GName) (ν′ : ℕ) (δ′ : GName) (ys : List Slot) (h : Tally) (b o b′ o′ : ℕ) where
     abbrev pub to-take : Take .Ghost
     to-take = (
       (
         (ν ∷ [], (ν′ ∷ [], (s₂ .life, (s₃ .life, tt)))),
         (fullShare, (fullShare, (s₂ .share, (s₃ .share, tt)))),
         tt,
-        (rows b o δ ys, (rows b′ o′ δ′ h, (lent-ref s₂, (lent-ref s₃, tt)))),
-        (sliceVal (b, o) (length ys) ∷ [], (vptr b′ o′ ∷ [], (lent-val s₂ ∷ [], (lent-val s₃ ∷ [], tt)))),
+        (e, (rows b o δ ys, (rows b′ o′ δ′ h, (lent-ref s₂, (lent-ref s₃, tt))))),
+        (edition-val e ∷ [], (sliceVal (b, o) (length ys) ∷ [], (vptr b′ o′ ∷ [], (lent-val s₂ ∷ [], (lent-val s₃ ∷ [], tt))))),
       ),
       tt,
     )
 
-    goes-take : (W : Given 𝓤 H A) → fits narrow (length (s₂ .now)) (length (s₃ .now)) (tallyOf h) ≡ true
+    goes-take : (W : Given 𝓤 H A) → Is N.the-row e (edition-val e ∷ []) → fits e (length (s₂ .now)) (length (s₃ .now)) (tallyOf h) ≡ true
         → ent 𝓤 (sep 𝓤 (mean 𝓤 H A (Lent-row 𝓤 s₂ s₃ ν δ ν′ δ′ ys h b o b′ o′)) (sep 𝓤 (mean 𝓤 H A (Lent-tally 𝓤 s₂ s₃ ν δ ν′ δ′ ys h b o b′ o′)) (mean 𝓤 H A (Lent-slices 𝓤 s₂ s₃ ν δ ν′ δ′ ys h b o b′ o′)))) (Take .pre to-take)
-    goes-take W fit =
+    goes-take W ge fit =
         via 𝓤 _
         (qed W (Lent-row 𝓤 s₂ s₃ ν δ ν′ δ′ ys h b o b′ o′ ∷ Lent-tally 𝓤 s₂ s₃ ν δ ν′ δ′ ys h b o b′ o′ ∷ Lent-slices 𝓤 s₂ s₃ ν δ ν′ δ′ ys h b o b′ o′ ∷ []) ∵
         split ! $ move ! (2 ∷ []) $ split ! $ move ! (4 ∷ []) $ split ! $ split ! $ move ! (2 ∷ []) $ split ! $
         -- [rules 0; bytes 1; rules's token 2; bytes's 3; ν′'s 4; t 5; ν's 6; slots 7]
-        nothing ! $ move ! (2 ∷ 0 ∷ []) $ fjoin ! $ move ! (1 ∷ 0 ∷ []) $ fjoin ! $ move ! (4 ∷ 0 ∷ []) $ fjoin ! $ move ! (5 ∷ 0 ∷ []) $ fjoin ! $
+        nothing ! $ move ! (2 ∷ 0 ∷ []) $ fjoin ! $ move ! (1 ∷ 0 ∷ []) $ fjoin ! $ move ! (4 ∷ 0 ∷ []) $ fjoin ! $ move ! (5 ∷ 0 ∷ []) $ fjoin ! $ owned ! N.the-row (Is N.the-row) (EL.makes N.the-type N′.the-plain 𝓤 H A) e _ ge $ fjoin ! $
         -- [what they own 0; rules's token 1; bytes's 2; ν′'s 3; ν's 4]
         nothing ! $ move ! (3 ∷ 0 ∷ []) $ join ! $ move ! (2 ∷ 0 ∷ []) $ join ! $ move ! (2 ∷ 0 ∷ []) $ join ! $ move ! (2 ∷ 0 ∷ []) $ join ! $ join ! $ done !) (beside 𝓤 fit)
 
 module _ {M : Type 1} {𝓤 : URA M} {H : Heap 𝓤} {A : Atoms 𝓤} {K : Type 0} {W : Given 𝓤 H A} {Γ : List (Item 𝓤)}
     {E : Env 𝓤 H} {C : Calls 𝓤 H} {Λ : Loops 𝓤 H} {q : Post 𝓤 H} {d : Place} {rest : Body} {xs : List Operand} where
-  pub call-take : K → (mem : Memory → SProp 𝓤) (run : Routine → Fun 𝓤) → FmC 𝓤 H (W .laws) C → Triple 𝓤 (C #take) (Take 𝓤 H A mem run) → (s₂ s₃ : Lent u8) (ys : List Slot) (h : Tally) (b o b′ o′ : ℕ) → Room T.the-row (length ys) → fits narrow (length (s₂ .now)) (length (s₃ .now)) (tallyOf h) ≡ true
-      → ((ν : ℕ) (δ : GName) (ν′ : ℕ) (δ′ : GName) → Opds K W (raw (Take 𝓤 H A mem run .pre (to-take 𝓤 H A mem run s₂ s₃ ν δ ν′ δ′ ys h b o b′ o′)) ∷ ‵ (flent (ν ∷ []) (Held T.the-row (length ys) b o δ)) ∷ ‵ (flent (ν′ ∷ []) (Held-one (memory Y.the-row) b′ o′ δ′)) ∷ Γ) E xs
-      (sliceVal (b, o) (length ys) ∷ vptr b′ o′ ∷ lent-val s₂ ∷ lent-val s₃ ∷ []))
-      → ((v : Verdict) (zs : List Slot) (t : Tally) → length zs ≡ length ys → Takes (s₂ .now) (s₃ .now) ys h v zs t → Is J.the-row v (verdict-val v ∷ []) → Seq K W (‵ (row T.the-row fullShare zs b o) ∷ ‵ (partAt Y.the-row fullShare t b′ o′) ∷ ‵ (flft (s₂ .life) (s₂ .share)) ∷ ‵ (flft (s₃ .life) (s₃ .share)) ∷ Γ) (lands C Λ E d (verdict-val v) rest q))
+  pub call-take : K → (mem : Memory → SProp 𝓤) (run : Routine → Fun 𝓤) → FmC 𝓤 H (W .laws) C → Triple 𝓤 (C #take) (Take 𝓤 H A mem run) → (e : Edition) → Is N.the-row e (edition-val e ∷ []) → (s₂ s₃ : Lent u8) (ys : List Slot) (h : Tally) (b o b′ o′ : ℕ) → Room T.the-row (length ys) → fits e (length (s₂ .now)) (length (s₃ .now)) (tallyOf h) ≡ true
+      → ((ν : ℕ) (δ : GName) (ν′ : ℕ) (δ′ : GName) → Opds K W (raw (Take 𝓤 H A mem run .pre (to-take 𝓤 H A mem run e s₂ s₃ ν δ ν′ δ′ ys h b o b′ o′)) ∷ ‵ (flent (ν ∷ []) (Held T.the-row (length ys) b o δ)) ∷ ‵ (flent (ν′ ∷ []) (Held-one (memory Y.the-row) b′ o′ δ′)) ∷ Γ) E xs
+      (edition-val e ∷ sliceVal (b, o) (length ys) ∷ vptr b′ o′ ∷ lent-val s₂ ∷ lent-val s₃ ∷ []))
+      → ((v : Verdict) (zs : List Slot) (t : Tally) → length zs ≡ length ys → Takes e (s₂ .now) (s₃ .now) ys h v zs t → Is J.the-row v (verdict-val v ∷ []) → Seq K W (‵ (row T.the-row fullShare zs b o) ∷ ‵ (partAt Y.the-row fullShare t b′ o′) ∷ ‵ (flft (s₂ .life) (s₂ .share)) ∷ ‵ (flft (s₃ .life) (s₃ .share)) ∷ Γ) (lands C Λ E d (verdict-val v) rest q))
       → Seq K W (‵ (row T.the-row fullShare ys b o) ∷ ‵ (partAt Y.the-row fullShare h b′ o′) ∷ ‵ (flft (s₂ .life) (s₂ .share)) ∷ ‵ (flft (s₃ .life) (s₃ .share)) ∷ ‵ (lent-own s₂) ∷ ‵ (lent-own s₃) ∷ Γ) (runs C Λ E (seq (call #take xs d) rest) q)
-  call-take t mem run fm known s₂ s₃ ys h b o b′ o′ room fit os next =
-      call-both t fm (Take 𝓤 H A mem run) known s₂ s₃ ys h b o b′ o′ room (λ ν δ ν′ δ′. to-take 𝓤 H A mem run s₂ s₃ ν δ ν′ δ′ ys h b o b′ o′) (λ ν δ ν′ δ′. goes-take 𝓤 H A mem run s₂ s₃ ν δ ν′ δ′ ys h b o b′ o′ W fit)
-      J.the-row verdict-val (EL.tells J.the-type J′.the-laws) {X = List Slot × (Tally × (Unit {0} × (Unit {0} × Unit {0})))} (λ ws. ws .0) (λ ws. ws .1 .0) (fsep ftrue (fsep ftrue ftrue)) (λ v zs u. Takes (s₂ .now) (s₃ .now) ys h v zs u) (λ ν δ ν′ δ′ w. id⊢ 𝓤 _) os next
+  call-take t mem run fm known e ge s₂ s₃ ys h b o b′ o′ room fit os next =
+      call-both t fm (Take 𝓤 H A mem run) known s₂ s₃ ys h b o b′ o′ room (λ ν δ ν′ δ′. to-take 𝓤 H A mem run e s₂ s₃ ν δ ν′ δ′ ys h b o b′ o′) (λ ν δ ν′ δ′. goes-take 𝓤 H A mem run e s₂ s₃ ν δ ν′ δ′ ys h b o b′ o′ W ge fit)
+      J.the-row verdict-val (EL.tells J.the-type J′.the-laws) {X = Unit {0} × (List Slot × (Tally × (Unit {0} × (Unit {0} × Unit {0}))))} (λ ws. ws .1 .0) (λ ws. ws .1 .1 .0) (fsep ftrue (fsep ftrue ftrue)) (λ v zs u. Takes e (s₂ .now) (s₃ .now) ys h v zs u) (λ ν δ ν′ δ′ w. id⊢ 𝓤 _) os next
 
 module _ {M : Type 1} {𝓤 : URA M} {H : Heap 𝓤} {A : Atoms 𝓤} {K : Type 0} {W : Given 𝓤 H A} {Γ : List (Item 𝓤)}
     {E : Env 𝓤 H} {C : Calls 𝓤 H} {Λ : Loops 𝓤 H} {q : Post 𝓤 H} {d : Place} {rest : Body} {xs : List Operand} where
-  pub call-take-at : K → (mem : Memory → SProp 𝓤) (run : Routine → Fun 𝓤) → FmC 𝓤 H (W .laws) C → Triple 𝓤 (C #take) (Take 𝓤 H A mem run) → (sheet rules : Lent u8) (k : ℕ) → k < length (sheet .now) / recordBytes narrow → (ys : List Slot) (h : Tally) (b o b′ o′ : ℕ) → Room T.the-row (length ys) → fits narrow (length (rules .now)) (length (lent (sheet .now) k)) (tallyOf h) ≡ true
-      → ((γ : GName) (ν : ℕ) (δ : GName) (ν′ : ℕ) (δ′ : GName) → Opds K W (raw (Take 𝓤 H A mem run .pre (to-take 𝓤 H A mem run rules (record-of sheet k γ) ν δ ν′ δ′ ys h b o b′ o′)) ∷ ‵ (flent (ν ∷ []) (Held T.the-row (length ys) b o δ)) ∷ ‵ (flent (ν′ ∷ []) (Held-one (memory Y.the-row) b′ o′ δ′))
-      ∷ ‵ (lent-own rules) ∷ ‵ (lent-own sheet) ∷ Γ) E xs (sliceVal (b, o) (length ys) ∷ vptr b′ o′ ∷ lent-val rules ∷ lent-val (record-of sheet k γ) ∷ []))
-      → ((v : Verdict) (zs : List Slot) (t : Tally) → length zs ≡ length ys → Takes (rules .now) (lent (sheet .now) k) ys h v zs t → Is J.the-row v (verdict-val v ∷ []) → Seq K W (‵ (row T.the-row fullShare zs b o) ∷ ‵ (partAt Y.the-row fullShare t b′ o′) ∷ ‵ (flft (sheet .life) (sheet .share)) ∷ ‵ (flft (rules .life) (rules .share)) ∷ ‵ (lent-own sheet) ∷ ‵ (lent-own rules) ∷ Γ) (lands C Λ E d (verdict-val v) rest q))
+  pub call-take-at : K → (mem : Memory → SProp 𝓤) (run : Routine → Fun 𝓤) → FmC 𝓤 H (W .laws) C → Triple 𝓤 (C #take) (Take 𝓤 H A mem run) → (e : Edition) → Is N.the-row e (edition-val e ∷ []) → (sheet rules : Lent u8) (k : ℕ) → k < length (sheet .now) / recordBytes e → (ys : List Slot) (h : Tally) (b o b′ o′ : ℕ) → Room T.the-row (length ys) → fits e (length (rules .now)) (length (lent e (sheet .now) k)) (tallyOf h) ≡ true
+      → ((γ : GName) (ν : ℕ) (δ : GName) (ν′ : ℕ) (δ′ : GName) → Opds K W (raw (Take 𝓤 H A mem run .pre (to-take 𝓤 H A mem run e rules (record-of e sheet k γ) ν δ ν′ δ′ ys h b o b′ o′)) ∷ ‵ (flent (ν ∷ []) (Held T.the-row (length ys) b o δ)) ∷ ‵ (flent (ν′ ∷ []) (Held-one (memory Y.the-row) b′ o′ δ′))
+      ∷ ‵ (lent-own rules) ∷ ‵ (lent-own sheet) ∷ Γ) E xs (edition-val e ∷ sliceVal (b, o) (length ys) ∷ vptr b′ o′ ∷ lent-val rules ∷ lent-val (record-of e sheet k γ) ∷ []))
+      → ((v : Verdict) (zs : List Slot) (t : Tally) → length zs ≡ length ys → Takes e (rules .now) (lent e (sheet .now) k) ys h v zs t → Is J.the-row v (verdict-val v ∷ []) → Seq K W (‵ (row T.the-row fullShare zs b o) ∷ ‵ (partAt Y.the-row fullShare t b′ o′) ∷ ‵ (flft (sheet .life) (sheet .share)) ∷ ‵ (flft (rules .life) (rules .share)) ∷ ‵ (lent-own sheet) ∷ ‵ (lent-own rules) ∷ Γ) (lands C Λ E d (verdict-val v) rest q))
       → Seq K W (‵ (row T.the-row fullShare ys b o) ∷ ‵ (partAt Y.the-row fullShare h b′ o′) ∷ ‵ (flft (sheet .life) (sheet .share)) ∷ ‵ (flft (rules .life) (rules .share)) ∷ ‵ (lent-own sheet) ∷ ‵ (lent-own rules) ∷ Γ) (runs C Λ E (seq (call #take xs d) rest) q)
-  call-take-at t mem run fm known sheet rules k inside ys h b o b′ o′ room fit os next =
+  call-take-at t mem run fm known e ge sheet rules k inside ys h b o b′ o′ room fit os next =
       move t (4 ∷ []) $ lent-twice t sheet $
-      move t (0 ∷ 4 ∷ []) $ share-part t tt (halved 𝓤 H A W (cRf (fInt w8))) sheet (recordBytes narrow * k) (recordBytes narrow * k + recordBytes narrow) (recordBytes narrow * k + sheet .o) (at-inside (length (sheet .now)) k inside) (at-byte (sheet .o) (recordBytes narrow * k)) (λ γ.
+      move t (0 ∷ 4 ∷ []) $ share-part t tt (halved 𝓤 H A W (cRf (fInt w8))) sheet (recordBytes e * k) (recordBytes e * k + recordBytes e) (recordBytes e * k + sheet .o) (at-inside e (length (sheet .now)) k inside) (at-byte (sheet .o) (recordBytes e * k)) (λ γ.
       move t (6 ∷ []) $ lent-twice t rules $ move t (5 ∷ 6 ∷ 7 ∷ 3 ∷ 0 ∷ 2 ∷ 1 ∷ 4 ∷ []) $
-      call-take t mem run fm known rules (record-of sheet k γ) ys h b o b′ o′ room fit (os γ) (λ v zs t′ same e g. move t (0 ∷ 1 ∷ 3 ∷ 2 ∷ 5 ∷ 4 ∷ []) $ next v zs t′ same e g))
+      call-take t mem run fm known e ge rules (record-of e sheet k γ) ys h b o b′ o′ room fit (os γ) (λ v zs t′ same o g. move t (0 ∷ 1 ∷ 3 ∷ 2 ∷ 5 ∷ 4 ∷ []) $ next v zs t′ same o g))
 
 -- ---- step
 
@@ -193,7 +196,7 @@ module _ {M : Type 1} (𝓤 : URA M) (H : Heap 𝓤) (A : Atoms 𝓤) (mem : Mem
   abbrev pub Step : Contract 𝓤
   Step = tripleOf 𝓤 H A step.signature (step.spec 𝓤 H A mem run)
 
-  module _ (s₂ s₃ : Lent u8) (ν : ℕ) (δ : GName) (ν′ : ℕ) (δ′ : GName) (ys : List Slot) (h : Tally) (b o b′ o′ : ℕ) (k : RecordNo) where
+  module _ (e : Edition) (s₂ s₃ : Lent u8) (ν : ℕ) (δ : GName) (ν′ : ℕ) (δ′ : GName) (ys : List Slot) (h : Tally) (b o b′ o′ : ℕ) (k : RecordNo) where
     -- what the triple binds outside, at the row lent for ν under δ and the tally for ν′ under δ′
     abbrev pub to-step : Step .Ghost
     to-step = (
@@ -201,45 +204,45 @@ module _ {M : Type 1} (𝓤 : URA M) (H : Heap 𝓤) (A : Atoms 𝓤) (mem : Mem
         (ν ∷ [], (ν′ ∷ [], (s₂ .life, (s₃ .life, tt)))),
         (fullShare, (fullShare, (s₂ .share, (s₃ .share, tt)))),
         tt,
-        (rows b o δ ys, (rows b′ o′ δ′ h, (lent-ref s₂, (lent-ref s₃, (k, tt))))),
-        (sliceVal (b, o) (length ys) ∷ [], (vptr b′ o′ ∷ [], (lent-val s₂ ∷ [], (lent-val s₃ ∷ [], (record-val k ∷ [], tt))))),
+        (e, (rows b o δ ys, (rows b′ o′ δ′ h, (lent-ref s₂, (lent-ref s₃, (k, tt)))))),
+        (edition-val e ∷ [], (sliceVal (b, o) (length ys) ∷ [], (vptr b′ o′ ∷ [], (lent-val s₂ ∷ [], (lent-val s₃ ∷ [], (record-val k ∷ [], tt)))))),
       ),
       tt,
     )
 
-    goes-step : (W : Given 𝓤 H A) → Is R.the-row k (record-val k ∷ [])
+    goes-step : (W : Given 𝓤 H A) → Is N.the-row e (edition-val e ∷ []) → Is R.the-row k (record-val k ∷ [])
         → ent 𝓤 (sep 𝓤 (mean 𝓤 H A (Lent-row 𝓤 s₂ s₃ ν δ ν′ δ′ ys h b o b′ o′)) (sep 𝓤 (mean 𝓤 H A (Lent-tally 𝓤 s₂ s₃ ν δ ν′ δ′ ys h b o b′ o′)) (mean 𝓤 H A (Lent-slices 𝓤 s₂ s₃ ν δ ν′ δ′ ys h b o b′ o′)))) (Step .pre to-step)
-    goes-step W gk =
+    goes-step W ge gk =
         qed W (Lent-row 𝓤 s₂ s₃ ν δ ν′ δ′ ys h b o b′ o′ ∷ Lent-tally 𝓤 s₂ s₃ ν δ ν′ δ′ ys h b o b′ o′ ∷ Lent-slices 𝓤 s₂ s₃ ν δ ν′ δ′ ys h b o b′ o′ ∷ []) ∵
         split ! $ move ! (2 ∷ []) $ split ! $ move ! (4 ∷ []) $ split ! $ split ! $ move ! (2 ∷ []) $ split ! $
         -- [rules 0; bytes 1; rules's token 2; bytes's 3; ν′'s 4; t 5; ν's 6; slots 7]
-        nothing ! $ owned ! R.the-row (Is R.the-row) (LL.makes R.the-type R′.the-plain 𝓤 H A) k _ gk $ fjoin ! $ move ! (2 ∷ 0 ∷ []) $ fjoin ! $ move ! (1 ∷ 0 ∷ []) $ fjoin ! $ move ! (4 ∷ 0 ∷ []) $ fjoin ! $ move ! (5 ∷ 0 ∷ []) $ fjoin ! $
+        nothing ! $ owned ! R.the-row (Is R.the-row) (LL.makes R.the-type R′.the-plain 𝓤 H A) k _ gk $ fjoin ! $ move ! (2 ∷ 0 ∷ []) $ fjoin ! $ move ! (1 ∷ 0 ∷ []) $ fjoin ! $ move ! (4 ∷ 0 ∷ []) $ fjoin ! $ move ! (5 ∷ 0 ∷ []) $ fjoin ! $ owned ! N.the-row (Is N.the-row) (EL.makes N.the-type N′.the-plain 𝓤 H A) e _ ge $ fjoin ! $
         -- [what they own 0; rules's token 1; bytes's 2; ν′'s 3; ν's 4]
         nothing ! $ move ! (3 ∷ 0 ∷ []) $ join ! $ move ! (2 ∷ 0 ∷ []) $ join ! $ move ! (2 ∷ 0 ∷ []) $ join ! $ move ! (2 ∷ 0 ∷ []) $ join ! $ join ! $ nothing ! $ move ! (1 ∷ 0 ∷ []) $ done !
 
 module _ {M : Type 1} {𝓤 : URA M} {H : Heap 𝓤} {A : Atoms 𝓤} {K : Type 0} {W : Given 𝓤 H A} {Γ : List (Item 𝓤)}
     {E : Env 𝓤 H} {C : Calls 𝓤 H} {Λ : Loops 𝓤 H} {q : Post 𝓤 H} {d : Place} {rest : Body} {xs : List Operand} where
-  pub call-step : K → (mem : Memory → SProp 𝓤) (run : Routine → Fun 𝓤) → FmC 𝓤 H (W .laws) C → Triple 𝓤 (C #step) (Step 𝓤 H A mem run) → (s₂ s₃ : Lent u8) (ys : List Slot) (h : Tally) (b o b′ o′ : ℕ) (k : RecordNo) → Room T.the-row (length ys) → Is R.the-row k (record-val k ∷ [])
-      → ((ν : ℕ) (δ : GName) (ν′ : ℕ) (δ′ : GName) → Opds K W (raw (Step 𝓤 H A mem run .pre (to-step 𝓤 H A mem run s₂ s₃ ν δ ν′ δ′ ys h b o b′ o′ k)) ∷ ‵ (flent (ν ∷ []) (Held T.the-row (length ys) b o δ)) ∷ ‵ (flent (ν′ ∷ []) (Held-one (memory Y.the-row) b′ o′ δ′)) ∷ Γ) E xs
-      (sliceVal (b, o) (length ys) ∷ vptr b′ o′ ∷ lent-val s₂ ∷ lent-val s₃ ∷ record-val k ∷ []))
-      → ((r : StepAnswer) (zs : List Slot) (t : Tally) → length zs ≡ length ys → Comes (s₂ .now) (s₃ .now) k ys h r zs t → Is S.the-row r (step-val r ∷ []) → Seq K W (‵ (row T.the-row fullShare zs b o) ∷ ‵ (partAt Y.the-row fullShare t b′ o′) ∷ ‵ (flft (s₂ .life) (s₂ .share)) ∷ ‵ (flft (s₃ .life) (s₃ .share)) ∷ Γ) (lands C Λ E d (step-val r) rest q))
+  pub call-step : K → (mem : Memory → SProp 𝓤) (run : Routine → Fun 𝓤) → FmC 𝓤 H (W .laws) C → Triple 𝓤 (C #step) (Step 𝓤 H A mem run) → (e : Edition) → Is N.the-row e (edition-val e ∷ []) → (s₂ s₃ : Lent u8) (ys : List Slot) (h : Tally) (b o b′ o′ : ℕ) (k : RecordNo) → Room T.the-row (length ys) → Is R.the-row k (record-val k ∷ [])
+      → ((ν : ℕ) (δ : GName) (ν′ : ℕ) (δ′ : GName) → Opds K W (raw (Step 𝓤 H A mem run .pre (to-step 𝓤 H A mem run e s₂ s₃ ν δ ν′ δ′ ys h b o b′ o′ k)) ∷ ‵ (flent (ν ∷ []) (Held T.the-row (length ys) b o δ)) ∷ ‵ (flent (ν′ ∷ []) (Held-one (memory Y.the-row) b′ o′ δ′)) ∷ Γ) E xs
+      (edition-val e ∷ sliceVal (b, o) (length ys) ∷ vptr b′ o′ ∷ lent-val s₂ ∷ lent-val s₃ ∷ record-val k ∷ []))
+      → ((r : StepAnswer) (zs : List Slot) (t : Tally) → length zs ≡ length ys → Comes e (s₂ .now) (s₃ .now) k ys h r zs t → Is S.the-row r (step-val r ∷ []) → Seq K W (‵ (row T.the-row fullShare zs b o) ∷ ‵ (partAt Y.the-row fullShare t b′ o′) ∷ ‵ (flft (s₂ .life) (s₂ .share)) ∷ ‵ (flft (s₃ .life) (s₃ .share)) ∷ Γ) (lands C Λ E d (step-val r) rest q))
       → Seq K W (‵ (row T.the-row fullShare ys b o) ∷ ‵ (partAt Y.the-row fullShare h b′ o′) ∷ ‵ (flft (s₂ .life) (s₂ .share)) ∷ ‵ (flft (s₃ .life) (s₃ .share)) ∷ ‵ (lent-own s₂) ∷ ‵ (lent-own s₃) ∷ Γ) (runs C Λ E (seq (call #step xs d) rest) q)
-  call-step t mem run fm known s₂ s₃ ys h b o b′ o′ k room gk os next =
-      call-both t fm (Step 𝓤 H A mem run) known s₂ s₃ ys h b o b′ o′ room (λ ν δ ν′ δ′. to-step 𝓤 H A mem run s₂ s₃ ν δ ν′ δ′ ys h b o b′ o′ k) (λ ν δ ν′ δ′. goes-step 𝓤 H A mem run s₂ s₃ ν δ ν′ δ′ ys h b o b′ o′ k W gk)
-      S.the-row step-val (EL.tells S.the-type S′.the-laws) {X = List Slot × (Tally × (Unit {0} × (Unit {0} × (Unit {0} × Unit {0}))))} (λ ws. ws .0) (λ ws. ws .1 .0) (fsep ftrue (fsep ftrue (fsep ftrue ftrue))) (λ r zs u. Comes (s₂ .now) (s₃ .now) k ys h r zs u) (λ ν δ ν′ δ′ w. id⊢ 𝓤 _) os next
+  call-step t mem run fm known e ge s₂ s₃ ys h b o b′ o′ k room gk os next =
+      call-both t fm (Step 𝓤 H A mem run) known s₂ s₃ ys h b o b′ o′ room (λ ν δ ν′ δ′. to-step 𝓤 H A mem run e s₂ s₃ ν δ ν′ δ′ ys h b o b′ o′ k) (λ ν δ ν′ δ′. goes-step 𝓤 H A mem run e s₂ s₃ ν δ ν′ δ′ ys h b o b′ o′ k W ge gk)
+      S.the-row step-val (EL.tells S.the-type S′.the-laws) {X = Unit {0} × (List Slot × (Tally × (Unit {0} × (Unit {0} × (Unit {0} × Unit {0})))))} (λ ws. ws .1 .0) (λ ws. ws .1 .1 .0) (fsep ftrue (fsep ftrue (fsep ftrue ftrue))) (λ r zs u. Comes e (s₂ .now) (s₃ .now) k ys h r zs u) (λ ν δ ν′ δ′ w. id⊢ 𝓤 _) os next
 
 module _ {M : Type 1} {𝓤 : URA M} {H : Heap 𝓤} {A : Atoms 𝓤} {K : Type 0} {W : Given 𝓤 H A} {Γ : List (Item 𝓤)}
     {E : Env 𝓤 H} {C : Calls 𝓤 H} {Λ : Loops 𝓤 H} {q : Post 𝓤 H} {d : Place} {rest : Body} {xs : List Operand} where
-  pub call-step-at : K → (mem : Memory → SProp 𝓤) (run : Routine → Fun 𝓤) → FmC 𝓤 H (W .laws) C → Triple 𝓤 (C #step) (Step 𝓤 H A mem run) → (sheet rules : Lent u8) (k : ℕ) → Room u8 (length (sheet .now)) → k < length (sheet .now) / recordBytes narrow → (ys : List Slot) (h : Tally) (b o b′ o′ : ℕ) → Room T.the-row (length ys)
-      → ((γ : GName) (ν : ℕ) (δ : GName) (ν′ : ℕ) (δ′ : GName) → Opds K W (raw (Step 𝓤 H A mem run .pre (to-step 𝓤 H A mem run rules (record-of sheet k γ) ν δ ν′ δ′ ys h b o b′ o′ (number k))) ∷ ‵ (flent (ν ∷ []) (Held T.the-row (length ys) b o δ)) ∷ ‵ (flent (ν′ ∷ []) (Held-one (memory Y.the-row) b′ o′ δ′))
-      ∷ ‵ (lent-own rules) ∷ ‵ (lent-own sheet) ∷ Γ) E xs (sliceVal (b, o) (length ys) ∷ vptr b′ o′ ∷ lent-val rules ∷ lent-val (record-of sheet k γ) ∷ record-val (number k) ∷ []))
-      → ((r : StepAnswer) (zs : List Slot) (t : Tally) → length zs ≡ length ys → Comes (rules .now) (lent (sheet .now) k) (number k) ys h r zs t → Is S.the-row r (step-val r ∷ []) → Seq K W (‵ (row T.the-row fullShare zs b o) ∷ ‵ (partAt Y.the-row fullShare t b′ o′) ∷ ‵ (flft (sheet .life) (sheet .share)) ∷ ‵ (flft (rules .life) (rules .share)) ∷ ‵ (lent-own sheet) ∷ ‵ (lent-own rules) ∷ Γ) (lands C Λ E d (step-val r) rest q))
+  pub call-step-at : K → (mem : Memory → SProp 𝓤) (run : Routine → Fun 𝓤) → FmC 𝓤 H (W .laws) C → Triple 𝓤 (C #step) (Step 𝓤 H A mem run) → (e : Edition) → Is N.the-row e (edition-val e ∷ []) → (sheet rules : Lent u8) (k : ℕ) → Room u8 (length (sheet .now)) → k < length (sheet .now) / recordBytes e → (ys : List Slot) (h : Tally) (b o b′ o′ : ℕ) → Room T.the-row (length ys)
+      → ((γ : GName) (ν : ℕ) (δ : GName) (ν′ : ℕ) (δ′ : GName) → Opds K W (raw (Step 𝓤 H A mem run .pre (to-step 𝓤 H A mem run e rules (record-of e sheet k γ) ν δ ν′ δ′ ys h b o b′ o′ (number k))) ∷ ‵ (flent (ν ∷ []) (Held T.the-row (length ys) b o δ)) ∷ ‵ (flent (ν′ ∷ []) (Held-one (memory Y.the-row) b′ o′ δ′))
+      ∷ ‵ (lent-own rules) ∷ ‵ (lent-own sheet) ∷ Γ) E xs (edition-val e ∷ sliceVal (b, o) (length ys) ∷ vptr b′ o′ ∷ lent-val rules ∷ lent-val (record-of e sheet k γ) ∷ record-val (number k) ∷ []))
+      → ((r : StepAnswer) (zs : List Slot) (t : Tally) → length zs ≡ length ys → Comes e (rules .now) (lent e (sheet .now) k) (number k) ys h r zs t → Is S.the-row r (step-val r ∷ []) → Seq K W (‵ (row T.the-row fullShare zs b o) ∷ ‵ (partAt Y.the-row fullShare t b′ o′) ∷ ‵ (flft (sheet .life) (sheet .share)) ∷ ‵ (flft (rules .life) (rules .share)) ∷ ‵ (lent-own sheet) ∷ ‵ (lent-own rules) ∷ Γ) (lands C Λ E d (step-val r) rest q))
       → Seq K W (‵ (row T.the-row fullShare ys b o) ∷ ‵ (partAt Y.the-row fullShare h b′ o′) ∷ ‵ (flft (sheet .life) (sheet .share)) ∷ ‵ (flft (rules .life) (rules .share)) ∷ ‵ (lent-own sheet) ∷ ‵ (lent-own rules) ∷ Γ) (runs C Λ E (seq (call #step xs d) rest) q)
-  call-step-at t mem run fm known sheet rules k room₀ inside ys h b o b′ o′ room os next =
+  call-step-at t mem run fm known e ge sheet rules k room₀ inside ys h b o b′ o′ room os next =
       -- what sheet and rules own is had twice, and of the sheet the part is made
       move t (4 ∷ []) $ lent-twice t sheet $
-      move t (0 ∷ 4 ∷ []) $ share-part t tt (halved 𝓤 H A W (cRf (fInt w8))) sheet (recordBytes narrow * k) (recordBytes narrow * k + recordBytes narrow) (recordBytes narrow * k + sheet .o) (at-inside (length (sheet .now)) k inside) (at-byte (sheet .o) (recordBytes narrow * k)) (λ γ.
+      move t (0 ∷ 4 ∷ []) $ share-part t tt (halved 𝓤 H A W (cRf (fInt w8))) sheet (recordBytes e * k) (recordBytes e * k + recordBytes e) (recordBytes e * k + sheet .o) (at-inside e (length (sheet .now)) k inside) (at-byte (sheet .o) (recordBytes e * k)) (λ γ.
       -- [the part 0; its token 1; what sheet owns 2; the row 3; the tally 4; rules's token 5; what rules owns 6; the rest]
       move t (6 ∷ []) $ lent-twice t rules $ move t (5 ∷ 6 ∷ 7 ∷ 3 ∷ 0 ∷ 2 ∷ 1 ∷ 4 ∷ []) $
-      call-step t mem run fm known rules (record-of sheet k γ) ys h b o b′ o′ (number k) room (number-is k (number-fits (length (sheet .now)) k (room₀ .0) inside)) (os γ) (λ r zs t′ same e g.
-      move t (0 ∷ 1 ∷ 3 ∷ 2 ∷ 5 ∷ 4 ∷ []) $ next r zs t′ same e g))
+      call-step t mem run fm known e ge rules (record-of e sheet k γ) ys h b o b′ o′ (number k) room (number-is k (number-fits e (length (sheet .now)) k (room₀ .0) inside)) (os γ) (λ r zs t′ same o g.
+      move t (0 ∷ 1 ∷ 3 ∷ 2 ∷ 5 ∷ 4 ∷ []) $ next r zs t′ same o g))

@@ -5,12 +5,15 @@ use denote.Enum.Laws as EL
 use Rattle.sheet.specs.declared.RecordNo.{RecordNo}
 use Rattle.sheet.specs.declared.Reading.{Reading}
 use Rattle.sheet.specs.declared.Verdict.{Verdict}
+use Rattle.sheet.specs.declared.edition.Edition.{Edition}
 use Rattle.sheet.proofs.RecordNo as R
 use Rattle.sheet.proofs.RecordNo.Laws as R′
 use Rattle.sheet.proofs.Reading as U
 use Rattle.sheet.proofs.Reading.Laws as U′
 use Rattle.sheet.proofs.Verdict as J
 use Rattle.sheet.proofs.Verdict.Laws as J′
+use Rattle.sheet.proofs.edition.Edition as N
+use Rattle.sheet.proofs.edition.Edition.Laws as N′
 use Rattle.tally.specs.declared.Tally.{Tally}
 use Rattle.tally.proofs.Tally as Y
 use Rattle.tally.proofs.Tally.Laws as Y′
@@ -26,6 +29,9 @@ use Rattle.replay_answer.proofs.ReplayAnswer.Laws as B′
 
 abbrev pub tally-val : Tally → Val
 tally-val = LL.val Y.the-type Y′.the-laws
+
+abbrev pub edition-val : Edition → Val
+edition-val = EL.val N.the-type N′.the-laws
 
 abbrev pub reading-val : Reading → Val
 reading-val = EL.val U.the-type U′.the-laws

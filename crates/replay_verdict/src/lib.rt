@@ -1,6 +1,5 @@
 // What is wrong with a record that reads (9 to 15), by what was found in the row; and whether a step is lent what a replay has.
 ghost use mathlib.Core.Path.{_≡_};
-ghost use Rattle.sheet.specs.Editions.{narrow};
 ghost use Rattle.sheet.specs.Reasons.{andThen};
 ghost use Rattle.sheet.specs.Denote.{recordOf};
 ghost use Rattle.tally.specs.Said.{tallyOf};
@@ -12,6 +11,7 @@ use sheet::NodeNo;
 use sheet::Reason;
 use sheet::Record;
 use sheet::Verdict;
+use sheet::edition::Edition;
 use tally::Tally;
 
 // 10: named node was dropped. 15: every slot holds a node.
@@ -36,6 +36,7 @@ fn and_then(v: Verdict, rest: Verdict) -> Verdict
 
 // The first number that applies to a record that reads.
 pub fn check_record(
+    edition: Edition,
     rules: &[u8],
     next: NodeNo,
     r: Record,
@@ -43,13 +44,14 @@ pub fn check_record(
     right: Place,
     vacant: Place,
 ) -> Verdict
-    ensures { λ v. ⌜ v ≡ checkFound narrow (now (rules .entry)) (next .0) (recordOf r) (placeOf left) (placeOf right) (placeOf vacant) ⌝ }
+    ensures { λ v. ⌜ v ≡ checkFound edition (now (rules .entry)) (next .0) (recordOf r) (placeOf left) (placeOf right) (placeOf vacant) ⌝ }
 {
     let roomy = check_place(Reason::Full, vacant);
     let left_held = check_place(Reason::Dropped, left);
     match r {
         Record::Given { line, clause } => {
-            and_then(sheet_checks::check_given(rules, line, clause), roomy)
+            let as_ruled = sheet_checks::check_given(edition, rules, line, clause);
+            and_then(as_ruled, roomy)
         }
         Record::Step {
             pivot,
@@ -75,10 +77,10 @@ pub fn check_record(
 }
 
 // A tally that a replay within its limit reaches before a record.
-fn within(t: Tally) -> bool
-    ensures { λ b. ⌜ b ≡ reached narrow (tallyOf t) ⌝ }
+fn within(edition: Edition, t: Tally) -> bool
+    ensures { λ b. ⌜ b ≡ reached edition (tallyOf t) ⌝ }
 {
-    if base::wide(t.next) < sheet::limits::REPLAY_RECORDS {
+    if base::wide(t.next) < edition.replay_records() {
         if t.held <= t.next {
             return t.steps <= t.next;
         }
@@ -86,16 +88,16 @@ fn within(t: Tally) -> bool
     false
 }
 
-// What a step asks of its caller: a record's 24 bytes, a rule table that check 4 passes, a tally within a replay's limit.
-pub fn fits(rules: usize, bytes: usize, t: Tally) -> bool
-    ensures { λ b. ⌜ b ≡ fits narrow rules bytes (tallyOf t) ⌝ }
+// What a step asks of its caller: a record's bytes, a rule table that check 4 passes, a tally within a replay's limit.
+pub fn fits(edition: Edition, rules: usize, bytes: usize, t: Tally) -> bool
+    ensures { λ b. ⌜ b ≡ fits edition rules bytes (tallyOf t) ⌝ }
 {
-    if bytes != sheet::limits::RECORD_BYTES {
+    if bytes != edition.record_bytes() {
         return false;
     }
-    let verdict = sheet_checks::check_table(rules);
+    let verdict = sheet_checks::check_table(edition, rules);
     let Verdict::Fine = verdict else {
         return false;
     };
-    within(t)
+    within(edition, t)
 }

@@ -83,7 +83,7 @@ use Rattle.replay_slots.proofs.nowhere.Met as nowhere-thm
 use Rattle.lending.proofs.Calls.{call-plain}
 use Rattle.lending.proofs.Rows.{rows, freed}
 use Rattle.lending.proofs.Locals.{envOf, localsOf, tail, literal}
-use Rattle.replay_row.proofs.Cells.{sv, nv, gv, pv, blank, blank-is, number, number-is, mul-fits}
+use Rattle.replay_row.proofs.Cells.{sv, nv, gv, pv, blank, blank-is, number, number-is, slot-bytes, mul-fits}
 use Rattle.replay_row.proofs.find.Key.{name as #key}
 use Rattle.replay_row.proofs.find as f
 use Rattle.replay_row.proofs.find.Statement as stated
@@ -195,7 +195,7 @@ module _ {M : Type 1} (𝓤 : URA M) (H : Heap 𝓤) (A : Atoms 𝓤) (W : Given
           (λ less. skips ! $ exec ! (𝓣 .C) (𝓣 .Λ) En (tail (tail m.turn-1)) (anyQ (Turned i)) $
           assigns ! (bin ! (load ! (from ! (stop !)) (look ! 20 refl)) (lit ! tt) (record { fits = mul-fits (i .0) n (lt less) room })) (from ! (stop !)) (init ! 12 refl (tt, record { fits = mul-fits (i .0) n (lt less) room })) $
           assigns ! (bin ! (load ! (from ! (fld ! refl (stop !))) (look-in ! 26 (sub ! 0 refl (whole !)))) (load ! (from ! (stop !)) (look ! 12 refl)) tt) (from ! (stop !)) (init ! 10 refl (tt, tt)) $
-          rewrite ! 10 (λ (p : ℕ). ‵ (fat fullShare tyPtr l₉ 0 (vptr b p))) (sym (place-is 24 o (i .0))) refl $
+          rewrite ! 10 (λ (p : ℕ). ‵ (fat fullShare tyPtr l₉ 0 (vptr b p))) (sym (place-is slot-bytes o (i .0))) refl $
           elem-out ! T.the-row (Is T.the-row) (shows 𝓤 H A T.the-row) (LL.vals T.the-type T′.the-laws) (LL.tells T.the-type T′.the-laws) q′ ys (i .0) blank b o (lt less) (λ ge.
           assigns ! (of-opd ! (load ! (from ! (hop ! (look ! 12 refl) (stop !))) (look-raw ! 0 refl))) (from ! (stop !)) (init ! 10 refl (LL.lawful T.the-type T′.the-laws 𝓤 H A W .typed (elem (i .0)) _ ge .0)) $
           elem-back ! T.the-row q′ ys (i .0) blank (sv (elem (i .0)) ∷ []) b o (lt less) $

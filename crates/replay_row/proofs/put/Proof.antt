@@ -60,7 +60,7 @@ use Rattle.replay_slots.proofs.Slot as T
 use Rattle.replay_slots.proofs.Slot.Laws as T′
 use Rattle.lending.proofs.Rows.{rows, freed}
 use Rattle.lending.proofs.Locals.{envOf, localsOf}
-use Rattle.replay_row.proofs.Cells.{sv, pv, blank, mul-fits}
+use Rattle.replay_row.proofs.Cells.{sv, pv, blank, slot-bytes, mul-fits}
 use Rattle.replay_row.proofs.put.Key.{name as #key}
 use Rattle.replay_row.proofs.put as f
 use Rattle.replay_row.proofs.put.Statement as stated
@@ -131,7 +131,7 @@ module _ {M : Type 1} (𝓤 : URA M) (H : Heap 𝓤) (A : Atoms 𝓤) (W : Given
         first ! $ branches ! (load ! (from ! (stop !)) (look ! 8 refl))
         (λ less. assigns ! (bin ! (load ! (from ! (stop !)) (look ! 14 refl)) (lit ! tt) (record { fits = mul-fits i n (ltb→lt i n less) room })) (from ! (stop !)) (init ! 6 refl (tt, record { fits = mul-fits i n (ltb→lt i n less) room })) $
         assigns ! (bin ! (load ! (from ! (fld ! refl (stop !))) (look-in ! 18 (sub ! 0 refl (whole !)))) (load ! (from ! (stop !)) (look ! 6 refl)) tt) (from ! (stop !)) (init ! 4 refl (tt, tt)) $
-        rewrite ! 4 (λ (a : ℕ). ‵ (fat fullShare tyPtr l₈ 0 (vptr b a))) (sym (place-is 24 o i)) refl $
+        rewrite ! 4 (λ (a : ℕ). ‵ (fat fullShare tyPtr l₈ 0 (vptr b a))) (sym (place-is slot-bytes o i)) refl $
         elem-out ! T.the-row (Is T.the-row) (shows 𝓤 H A T.the-row) (LL.vals T.the-type T′.the-laws) (LL.tells T.the-type T′.the-laws) fullShare ys i blank b o (ltb→lt i n less) (λ _.
         -- [slots[i]; what it owns; the others; …]: two more than before
         assigns-last ! (of-opd ! (load ! (from ! (stop !)) (look ! 14 refl))) (from ! (hop ! (look ! 6 refl) (stop !))) (store-raw ! 0 refl (LL.lawful T.the-type T′.the-laws 𝓤 H A W .typed s _ gs .0)) $

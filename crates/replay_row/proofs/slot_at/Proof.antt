@@ -53,7 +53,7 @@ use Rattle.replay_slots.proofs.empty.Met as empty-thm
 use Rattle.lending.proofs.Calls.{call-plain}
 use Rattle.lending.proofs.Rows.{rows, freed}
 use Rattle.lending.proofs.Locals.{envOf}
-use Rattle.replay_row.proofs.Cells.{sv, nv, blank, blank-is, mul-fits}
+use Rattle.replay_row.proofs.Cells.{sv, nv, blank, blank-is, slot-bytes, mul-fits}
 use Rattle.replay_row.proofs.Prims.{Empty}
 use Rattle.replay_row.proofs.slot_at.Key.{name as #key}
 use Rattle.replay_row.proofs.slot_at as f
@@ -106,7 +106,7 @@ module _ {M : Type 1} (𝓤 : URA M) (H : Heap 𝓤) (A : Atoms 𝓤) (W : Given
         first ! $ branches ! (load ! (from ! (stop !)) (look ! 10 refl))
         (λ less. assigns ! (bin ! (load ! (from ! (stop !)) (look ! 14 refl)) (lit ! tt) (record { fits = mul-fits i n (lt less) room })) (from ! (stop !)) (init ! 8 refl (tt, record { fits = mul-fits i n (lt less) room })) $
         assigns ! (bin ! (load ! (from ! (fld ! refl (stop !))) (look-in ! 18 (sub ! 0 refl (whole !)))) (load ! (from ! (stop !)) (look ! 8 refl)) tt) (from ! (stop !)) (init ! 6 refl (tt, tt)) $
-        rewrite ! 6 (λ (p : ℕ). ‵ (fat fullShare tyPtr l₇ 0 (vptr b p))) (sym (place-is 24 o i)) refl $
+        rewrite ! 6 (λ (p : ℕ). ‵ (fat fullShare tyPtr l₇ 0 (vptr b p))) (sym (place-is slot-bytes o i)) refl $
         elem-out ! T.the-row (Is T.the-row) (shows 𝓤 H A T.the-row) (LL.vals T.the-type T′.the-laws) (LL.tells T.the-type T′.the-laws) q′ ys i blank b o (lt less) (λ ge.
         assigns ! (of-opd ! (load ! (from ! (hop ! (look ! 8 refl) (stop !))) (look-raw ! 0 refl))) (from ! (stop !)) (init ! 6 refl (LL.lawful T.the-type T′.the-laws 𝓤 H A W .typed (getD ys i blank) _ ge .0)) $
         elem-back ! T.the-row q′ ys i blank (sv (getD ys i blank) ∷ []) b o (lt less) $

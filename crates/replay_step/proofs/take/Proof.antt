@@ -4,6 +4,7 @@ use mathlib.Core.Path.{_≡_, refl, sym, ap, subst, _∙_}
 use mathlib.Core.Bool.{true}
 use Prim.Native.Nat.{ℕ, _-_, _*_, _≤_, _<_}
 use native.Mathlib.Nat.{le-of-eq}
+use native.Mathlib.Omega.{arith}
 use mathlib.Core.List.{List, [], _∷_}
 use mathlib.Core.Option.{none, some}
 use lib.ListN.{length, getD}
@@ -50,10 +51,14 @@ use Rattle.lending.proofs.Leaving.{leaves}
 use Rattle.lending.proofs.Locals.{envOf, localsOf, source}
 use Rattle.lending.proofs.Parts.{Lent, lent-own}
 use Rattle.lending.proofs.Rows.{rows}
-use Rattle.sheet.specs.Editions.{narrow, replayRecords, recordBytes}
+use Rattle.sheet.specs.declared.edition.Edition.{Edition}
+use Rattle.sheet.specs.Editions.{recordBytes, replayRecords, mostRecords}
 use Rattle.sheet.specs.Fields.{reading as reads-as}
 use Rattle.sheet.specs.Denote.{readingOf}
 use Rattle.sheet.specs.declared.Reading.{Reading}
+use Rattle.sheet.proofs.edition.Edition as N
+use Rattle.sheet.proofs.edition.Edition.Laws as N′
+use Rattle.sheet.proofs.Sizes.{replay-few}
 use Rattle.sheet.proofs.Reading as U
 use Rattle.sheet.proofs.Reading.Laws as U′
 use Rattle.sheet.proofs.Verdict as J
@@ -106,7 +111,7 @@ use Rattle.replay_row.proofs.find.Met as find-thm
 use Rattle.replay_row.proofs.put.Symbol as put-def
 use Rattle.replay_row.proofs.put.Symbol.{name as #put}
 use Rattle.replay_row.proofs.put.Met as put-thm
-use Rattle.replay_step.proofs.Values.{tally-val, reading-val, decided-val, verdict-val}
+use Rattle.replay_step.proofs.Values.{edition-val, tally-val, reading-val, decided-val, verdict-val}
 use Rattle.replay_step.proofs.take.Key.{name as #key}
 use Rattle.replay_step.proofs.take as f
 use Rattle.replay_step.proofs.take.Statement as stated
@@ -116,14 +121,14 @@ use Rattle.replay_step.proofs.take.Code.Mir as m
 -- nothing is asked back of what is shared or plain
 abbrev stayed : Stays (f.ended .signature .params) (f.ended .kept)
 stayed = (
-  stay-slice (0 ∷ []) tt (plain (λ _. T.the-row)),
+  stay-dropped (plain (λ _. N.the-row)) yes,
   (
-    stay-ref (1 ∷ []) tt (plain (λ _. Y.the-row)),
+    stay-slice (0 ∷ []) tt (plain (λ _. T.the-row)),
     (
-      stay-dropped (shrSliceOf (2 ∷ []) tt (plain (λ _. u8))) yes,
+      stay-ref (1 ∷ []) tt (plain (λ _. Y.the-row)),
       (
-        stay-dropped (shrSliceOf (3 ∷ []) tt (plain (λ _. u8))) yes,
-        tt,
+        stay-dropped (shrSliceOf (2 ∷ []) tt (plain (λ _. u8))) yes,
+        (stay-dropped (shrSliceOf (3 ∷ []) tt (plain (λ _. u8))) yes, tt),
       ),
     ),
   ),
@@ -134,9 +139,9 @@ stayed = (
 abbrev Found : Type 0
 Found = (p : Place) × Is F.the-row p (pv p ∷ [])
 
--- argument number i of the call of `decide`, by the local that the code copies it from: _6 is left, _7 right, _8 vacant
+-- argument number i of the call of `decide`, by the local that the code copies it from: _7 is left, _8 right, _9 vacant
 abbrev handed : ℕ → Found → Found → Found → Found
-handed i left right vacant = getD (left ∷ right ∷ []) (source i m.s-15 - 6) vacant
+handed i left right vacant = getD (left ∷ right ∷ []) (source i m.s-15 - 7) vacant
 
 module _ {M : Type 1} (𝓤 : URA M) (H : Heap 𝓤) (A : Atoms 𝓤) (at-mem : Memory → SProp 𝓤) (run : Routine → Fun 𝓤) where
   abbrev Reads : Contract 𝓤
@@ -164,38 +169,38 @@ module _ {M : Type 1} (𝓤 : URA M) (H : Heap 𝓤) (A : Atoms 𝓤) (at-mem : 
     put : Triple 𝓤 (C #put) (Put 𝓤 H A at-mem run)
 
 -- ---- what is decided, of the row as it is
-module _ (rules bytes : List ℕ) (ys : List Slot) (h : Tally) where
+module _ (edition : Edition) (rules bytes : List ℕ) (ys : List Slot) (h : Tally) where
   abbrev before : State
   before = state (tallyOf h) (rowOf ys)
 
   abbrev Says : Decided → List Slot → Type 0
-  Says d zs = judged (d .verdict) (state (tallyOf (d .tally)) (rowOf zs)) ≡ byTurn before (turn narrow rules bytes before)
+  Says d zs = judged (d .verdict) (state (tallyOf (d .tally)) (rowOf zs)) ≡ byTurn before (turn edition rules bytes before)
 
   -- what `decide` promises, of what was found
   abbrev Decided-of : Reading → Place → Place → Place → Decided → Type 0
-  Decided-of w left right vacant d = decidedOf d ≡ decided narrow rules (tallyOf h) (readingOf w) (placeOf left) (placeOf right) (placeOf vacant)
+  Decided-of w left right vacant d = decidedOf d ≡ decided edition rules (tallyOf h) (readingOf w) (placeOf left) (placeOf right) (placeOf vacant)
 
   -- a place is that of a look for what a record needs
   abbrev Found-for : RowSought → Place → Type 0
   Found-for x p = placeOf p ≡ look-for x (rowOf ys)
 
-  says-so : (w : Reading) → readingOf w ≡ reads-as narrow true bytes → (left right vacant : Place)
+  says-so : (w : Reading) → readingOf w ≡ reads-as edition true bytes → (left right vacant : Place)
       → Found-for (leftSought (readingOf w)) left → Found-for (rightSought (readingOf w)) right → Found-for (roomSought (readingOf w)) vacant
       → (d : Decided) → Decided-of w left right vacant d → (zs : List Slot) → rowOf zs ≡ put-into (placeOf (d .place)) (rowOf ys) → Says d zs
   unfolding turn
   says-so w read left right vacant e-left e-right e-vacant d e zs so =
       ap (λ (row : List RowSlot). judged (d .verdict) (state (tallyOf (d .tally)) row)) so
-      ∙ ap (λ (x : RowDecided). comesTo x (rowOf ys)) (e ∙ (λ i. decided narrow rules (tallyOf h) (readingOf w) (e-left i) (e-right i) (e-vacant i)))
-      ∙ decides narrow rules before (readingOf w)
-      ∙ (λ i. byTurn before (byReading narrow rules before (read i)))
+      ∙ ap (λ (x : RowDecided). comesTo x (rowOf ys)) (e ∙ (λ i. decided edition rules (tallyOf h) (readingOf w) (e-left i) (e-right i) (e-vacant i)))
+      ∙ decides edition rules before (readingOf w)
+      ∙ (λ i. byTurn before (byReading edition rules before (read i)))
 
 module _ {M : Type 1} (𝓤 : URA M) (H : Heap 𝓤) (A : Atoms 𝓤) (W : Given 𝓤 H A) (at-mem : Memory → SProp 𝓤) (run : Routine → Fun 𝓤) (κ₀ κ₁ κ₂ κ₃ : Lft) (q₀ q₁ q₂ q₃ : Share) (b o : ℕ) (γ : GName) (b₁ o₁ : ℕ) (γ₁ : GName) (b₂ o₂ : ℕ) (γ₂ : GName) (b₃ o₃ : ℕ) (γ₃ : GName)
-    (ys : List Slot) (h : Tally) (rules bytes : List ℕ) (room : Room T.the-row (length ys)) (room₂ : Room u8 (length rules)) (room₃ : Room u8 (length bytes)) (fit : fits narrow (length rules) (length bytes) (tallyOf h) ≡ true) where
-  abbrev x : RefT (List Slot) × (RefT Tally × (RefT (List ℕ) × (RefT (List ℕ) × Unit {0})))
-  x = (rows b o γ ys, (rows b₁ o₁ γ₁ h, (rows b₂ o₂ γ₂ rules, (rows b₃ o₃ γ₃ bytes, tt))))
+    (edition : Edition) (ys : List Slot) (h : Tally) (rules bytes : List ℕ) (ge : Is N.the-row edition (edition-val edition ∷ [])) (room : Room T.the-row (length ys)) (room₂ : Room u8 (length rules)) (room₃ : Room u8 (length bytes)) (fit : fits edition (length rules) (length bytes) (tallyOf h) ≡ true) where
+  abbrev x : Edition × (RefT (List Slot) × (RefT Tally × (RefT (List ℕ) × (RefT (List ℕ) × Unit {0}))))
+  x = (edition, (rows b o γ ys, (rows b₁ o₁ γ₁ h, (rows b₂ o₂ γ₂ rules, (rows b₃ o₃ γ₃ bytes, tt)))))
 
   abbrev at : Vals f.signature (κ₀, (κ₁, (κ₂, (κ₃, tt))))
-  at = (sliceVal (b, o) (length ys) ∷ [], (vptr b₁ o₁ ∷ [], (sliceVal (b₂, o₂) (length rules) ∷ [], (sliceVal (b₃, o₃) (length bytes) ∷ [], tt))))
+  at = (edition-val edition ∷ [], (sliceVal (b, o) (length ys) ∷ [], (vptr b₁ o₁ ∷ [], (sliceVal (b₂, o₂) (length rules) ∷ [], (sliceVal (b₃, o₃) (length bytes) ∷ [], tt)))))
 
   abbrev Post : Val → SProp 𝓤
   Post = walkOf 𝓤 H A f.ended stayed (f.clauses 𝓤 H A at-mem run) .post (((κ₀, (κ₁, (κ₂, (κ₃, tt)))), (q₀, (q₁, (q₂, (q₃, tt)))), tt, x, at), tt)
@@ -209,30 +214,30 @@ module _ {M : Type 1} (𝓤 : URA M) (H : Heap 𝓤) (A : Atoms 𝓤) (W : Given
   Had d zs = ‵ (fobs γ (codedHoleys T.the-row .code (heres T.the-row zs))) ∷ ‵ (fbor κ₀ (Held T.the-row (length zs) b o γ)) ∷ ‵ (flft κ₀ q₀)
       ∷ ‵ (fobs γ₁ (Y.the-row .coded .code (d .tally))) ∷ ‵ (fbor κ₁ (Body (mem Y.the-row) b₁ o₁ γ₁)) ∷ ‵ (flft κ₁ q₁) ∷ (‵ (flft κ₂ q₂) ⊛ (‵ (flft κ₃ q₃) ⊛ ‵ ftrue)) ∷ []
 
-  exits : (d : Decided) (zs : List Slot) → length zs ≡ length ys → Says rules bytes ys h d zs → Is J.the-row (d .verdict) (verdict-val (d .verdict) ∷ []) → ent 𝓤 (⋆ 𝓤 H A (Had d zs)) (Post (verdict-val (d .verdict)))
+  exits : (d : Decided) (zs : List Slot) → length zs ≡ length ys → Says edition rules bytes ys h d zs → Is J.the-row (d .verdict) (verdict-val (d .verdict) ∷ []) → ent 𝓤 (⋆ 𝓤 H A (Had d zs)) (Post (verdict-val (d .verdict)))
   exits d zs same e ga =
       qed W (Had d zs) ∵
-      suffices ! _ (ends-at 𝓤 H A f.ended stayed (f.clauses 𝓤 H A at-mem run) W (((κ₀, (κ₁, (κ₂, (κ₃, tt)))), (q₀, (q₁, (q₂, (q₃, tt)))), tt, x, at), tt) (verdict-val (d .verdict)) (d .verdict) (zs, (d .tally, (tt, (tt, tt)))) (same, (tt, (tt, (tt, tt))))) $
+      suffices ! _ (ends-at 𝓤 H A f.ended stayed (f.clauses 𝓤 H A at-mem run) W (((κ₀, (κ₁, (κ₂, (κ₃, tt)))), (q₀, (q₁, (q₂, (q₃, tt)))), tt, x, at), tt) (verdict-val (d .verdict)) (d .verdict) (tt, (zs, (d .tally, (tt, (tt, tt))))) (tt, (same, (tt, (tt, (tt, tt)))))) $
       says ! e $ move ! (5 ∷ 6 ∷ []) $ join ! $ move ! (3 ∷ 0 ∷ []) $ join ! $ frame ! $
       -- [obs; the borrow; the tally's obs; its borrow]
-      fjoin ! $ pureI ! (at-slice T.the-row (rows b o γ zs) (at .0)) (tt, (tt, tt)) (ap (λ (m : ℕ). sliceVal (b, o) m ∷ []) (sym same), subst (Room T.the-row) (sym same) room) $ fjoin ! $
+      fjoin ! $ pureI ! (at-slice T.the-row (rows b o γ zs) (at .1 .0)) (tt, (tt, tt)) (ap (λ (m : ℕ). sliceVal (b, o) m ∷ []) (sym same), subst (Room T.the-row) (sym same) room) $ fjoin ! $
       move ! (1 ∷ 2 ∷ []) $ feqI ! (List Val) (vptr b₁ o₁ ∷ []) (vptr b₁ o₁ ∷ []) refl $ fjoin3 ! $
-      nothing ! $ nothing ! $ fjoin ! $ nothing ! $ fjoin ! $ move ! (1 ∷ 0 ∷ []) $ fjoin ! $ move ! (1 ∷ 0 ∷ []) $ fjoin ! $ frame ! $
+      nothing ! $ nothing ! $ fjoin ! $ nothing ! $ fjoin ! $ move ! (1 ∷ 0 ∷ []) $ fjoin ! $ move ! (1 ∷ 0 ∷ []) $ fjoin ! $ nothing ! $ fjoin ! $ frame ! $
       owned ! J.the-row (Is J.the-row) (EL.makes J.the-type J′.the-plain 𝓤 H A) (d .verdict) _ ga $ done !
 
   module _ (C : Calls 𝓤 H) (Λ : Loops 𝓤 H) (fm : FmC 𝓤 H (W .laws) C) (known : Known 𝓤 H A at-mem run C) where
-    module _ (l₀ l₁ l₂ l₃ l₄ l₅ l₆ l₇ l₈ l₉ l₁₀ l₁₁ l₁₂ l₁₃ l₁₄ l₁₅ l₁₆ l₁₇ l₁₈ l₁₉ l₂₀ : ℕ) where
+    module _ (l₀ l₁ l₂ l₃ l₄ l₅ l₆ l₇ l₈ l₉ l₁₀ l₁₁ l₁₂ l₁₃ l₁₄ l₁₅ l₁₆ l₁₇ l₁₈ l₁₉ l₂₀ l₂₁ : ℕ) where
       abbrev bs : List ℕ
-      bs = l₀ ∷ l₁ ∷ l₂ ∷ l₃ ∷ l₄ ∷ l₅ ∷ l₆ ∷ l₇ ∷ l₈ ∷ l₉ ∷ l₁₀ ∷ l₁₁ ∷ l₁₂ ∷ l₁₃ ∷ l₁₄ ∷ l₁₅ ∷ l₁₆ ∷ l₁₇ ∷ l₁₈ ∷ l₁₉ ∷ l₂₀ ∷ []
+      bs = l₀ ∷ l₁ ∷ l₂ ∷ l₃ ∷ l₄ ∷ l₅ ∷ l₆ ∷ l₇ ∷ l₈ ∷ l₉ ∷ l₁₀ ∷ l₁₁ ∷ l₁₂ ∷ l₁₃ ∷ l₁₄ ∷ l₁₅ ∷ l₁₆ ∷ l₁₇ ∷ l₁₈ ∷ l₁₉ ∷ l₂₀ ∷ l₂₁ ∷ []
 
       abbrev En : Env 𝓤 H
       En = envOf 𝓤 H (code.function .locals) bs
 
       -- [the row 0; the other two tokens 1; the tally's cell 2; its open borrow 3; obs 4; auth 5; the row's open borrow 6; obs 7; auth 8; locals from 9]: put(slots, d.place), and the tally is stored
-      puts : (d : Decided) → Is D.the-row d (decided-val d ∷ []) → ((zs : List Slot) → rowOf zs ≡ put-into (placeOf (d .place)) (rowOf ys) → Says rules bytes ys h d zs)
+      puts : (d : Decided) → Is D.the-row d (decided-val d ∷ []) → ((zs : List Slot) → rowOf zs ≡ put-into (placeOf (d .place)) (rowOf ys) → Says edition rules bytes ys h d zs)
           → Sq W (‵ (row T.the-row fullShare ys b o) ∷ (‵ (flft κ₂ q₂) ⊛ (‵ (flft κ₃ q₃) ⊛ ‵ ftrue)) ∷ ‵ (cellAt fullShare (Y.the-row .mir) (tally-val h ∷ []) b₁ o₁) ∷ ‵ (fobor κ₁ q₁ (Body (mem Y.the-row) b₁ o₁ γ₁)) ∷ ‵ (fobs γ₁ (Y.the-row .coded .code h)) ∷ ‵ (fauth γ₁ (Y.the-row .coded .code h))
           ∷ ‵ (fobor κ₀ q₀ (Held T.the-row (length ys) b o γ)) ∷ ‵ (fobs γ (codedHoleys T.the-row .code (heres T.the-row ys))) ∷ ‵ (fauth γ (codedHoleys T.the-row .code (heres T.the-row ys)))
-          ∷ localsOf 𝓤 (code.function .locals) bs (none ∷ some (sliceVal (b, o) (length ys)) ∷ some (vptr b₁ o₁) ∷ some (sliceVal (b₂, o₂) (length rules)) ∷ some (sliceVal (b₃, o₃) (length bytes)) ∷ none ∷ none ∷ none ∷ none ∷ some (decided-val d) ∷ []) [])
+          ∷ localsOf 𝓤 (code.function .locals) bs (none ∷ some (edition-val edition) ∷ some (sliceVal (b, o) (length ys)) ∷ some (vptr b₁ o₁) ∷ some (sliceVal (b₂, o₂) (length rules)) ∷ some (sliceVal (b₃, o₃) (length bytes)) ∷ none ∷ none ∷ none ∷ none ∷ some (decided-val d) ∷ []) [])
           (runs C Λ En m.t-16 (atRet En Post))
       puts d gd so =
           assigns ! (addr ! (from ! (fld ! refl (hop ! (look-in ! 47 (sub ! 0 refl (whole !))) (stop !))))) (from ! (stop !)) (init ! 11 refl (tt, tt)) $
@@ -240,12 +245,12 @@ module _ {M : Type 1} (𝓤 : URA M) (H : Heap 𝓤) (A : Atoms 𝓤) (W : Given
           call-put ! at-mem run fm (known .put) ys b o (d .place) room (LL.owed D.the-type D′.the-laws d _ gd .1 .1 .0) (λ ν δ. (and-then ! (load ! (from ! (stop !)) (look ! 10 refl)) (and-then ! (load-field ! 32 {v = pv (d .place)} refl refl refl) (no-more !)))) (λ zs put.
           land ! (from ! (stop !)) (init ! 13 refl (tt, tt)) $
           assigns ! (of-opd ! (load-field ! 31 {v = tally-val (d .tally)} refl refl refl)) (from ! (hop ! (look ! 45 refl) (stop !))) (store-raw ! 2 refl (LL.lawful Y.the-type Y′.the-laws 𝓤 H A W .typed (d .tally) (tally-val (d .tally) ∷ []) tally-is .0)) $
-          assigns ! (of-opd ! (load-field ! 31 {v = verdict-val (d .verdict)} refl refl refl)) (from ! (stop !)) (init ! 49 refl (EL.lawful J.the-type J′.the-laws 𝓤 H A W tt .typed (d .verdict) (verdict-val (d .verdict) ∷ []) verdict-is .0)) $
+          assigns ! (of-opd ! (load-field ! 31 {v = verdict-val (d .verdict)} refl refl refl)) (from ! (stop !)) (init ! 51 refl (EL.lawful J.the-type J′.the-laws 𝓤 H A W tt .typed (d .verdict) (verdict-val (d .verdict) ∷ []) verdict-is .0)) $
           -- both borrows are closed
           owned ! Y.the-row (Is Y.the-row) (LL.makes Y.the-type Y′.the-plain 𝓤 H A) (d .tally) (tally-val (d .tally) ∷ []) tally-is $ move ! (3 ∷ 0 ∷ 4 ∷ 5 ∷ 6 ∷ []) $ closes ! tt Y.the-row (d .tally) (tally-val (d .tally) ∷ []) b₁ o₁ $
           move ! (3 ∷ 5 ∷ 6 ∷ 7 ∷ []) $ closes-slice ! tt T.the-row ys zs (put-length (placeOf (d .place)) ys zs put) b o $
           -- [obs; the borrow; the token; the tally's obs; its borrow; its token; the other two; locals from 7]
-          returns ! (look ! 47 refl) $ leaves ! 7 (code.function .locals) bs (some _ ∷ some _ ∷ some _ ∷ some _ ∷ some _ ∷ none ∷ none ∷ none ∷ none ∷ some _ ∷ none ∷ none ∷ none ∷ none ∷ none ∷ none ∷ none ∷ none ∷ some _ ∷ some _ ∷ some _ ∷ []) refl $ by ! (exits d zs (put-length (placeOf (d .place)) ys zs put) (so zs put) verdict-is))
+          returns ! (look ! 49 refl) $ leaves ! 7 (code.function .locals) bs (some _ ∷ some _ ∷ some _ ∷ some _ ∷ some _ ∷ some _ ∷ none ∷ none ∷ none ∷ none ∷ some _ ∷ none ∷ none ∷ none ∷ none ∷ none ∷ none ∷ none ∷ none ∷ some _ ∷ some _ ∷ some _ ∷ []) refl $ by ! (exits d zs (put-length (placeOf (d .place)) ys zs put) (so zs put) verdict-is))
         where
           tally-is : Is Y.the-row (d .tally) (tally-val (d .tally) ∷ [])
           tally-is = LL.owed D.the-type D′.the-laws d _ gd .1 .0
@@ -257,30 +262,30 @@ module _ {M : Type 1} (𝓤 : URA M) (H : Heap 𝓤) (A : Atoms 𝓤) (W : Given
       Held-open Γ = ‵ (row T.the-row fullShare ys b o) ∷ ‵ (flft κ₃ q₃) ∷ ‵ ftrue ∷ ‵ (cellAt fullShare (Y.the-row .mir) (tally-val h ∷ []) b₁ o₁) ∷ ‵ (fobor κ₁ q₁ (Body (mem Y.the-row) b₁ o₁ γ₁)) ∷ ‵ (fobs γ₁ (Y.the-row .coded .code h)) ∷ ‵ (fauth γ₁ (Y.the-row .coded .code h))
           ∷ ‵ (fobor κ₀ q₀ (Held T.the-row (length ys) b o γ)) ∷ ‵ (fobs γ (codedHoleys T.the-row .code (heres T.the-row ys))) ∷ ‵ (fauth γ (codedHoleys T.the-row .code (heres T.the-row ys))) ∷ ‵ (flft κ₂ q₂) ∷ ‵ (lent-own lent-rules) ∷ Γ
 
-      -- [the row 0; bytes's token 1; true 2; the tally's cell 3; its open borrow 4; obs 5; auth 6; the row's open borrow 7; obs 8; auth 9; rules's token 10; what rules owns 11; locals from 12]: decide(*t, rules, reading, left, right, vacant)
+      -- [the row 0; bytes's token 1; true 2; the tally's cell 3; its open borrow 4; obs 5; auth 6; the row's open borrow 7; obs 8; auth 9; rules's token 10; what rules owns 11; locals from 12]: decide(edition, *t, rules, reading, left, right, vacant)
       decided-on : Is Y.the-row h (tally-val h ∷ []) → (w : Reading) (left right vacant : Found) → Is U.the-row w (reading-val w ∷ [])
-          → ((d : Decided) → Decided-of rules bytes ys h w (left .0) (right .0) (vacant .0) d → (zs : List Slot) → rowOf zs ≡ put-into (placeOf (d .place)) (rowOf ys) → Says rules bytes ys h d zs)
-          → Sq W (Held-open (localsOf 𝓤 (code.function .locals) bs (none ∷ some (sliceVal (b, o) (length ys)) ∷ some (vptr b₁ o₁) ∷ some (sliceVal (b₂, o₂) (length rules)) ∷ some (sliceVal (b₃, o₃) (length bytes)) ∷ some (reading-val w) ∷ some (pv (left .0)) ∷ some (pv (right .0)) ∷ some (pv (vacant .0)) ∷ []) [])) (runs C Λ En m.t-14 (atRet En Post))
+          → ((d : Decided) → Decided-of edition rules bytes ys h w (left .0) (right .0) (vacant .0) d → (zs : List Slot) → rowOf zs ≡ put-into (placeOf (d .place)) (rowOf ys) → Says edition rules bytes ys h d zs)
+          → Sq W (Held-open (localsOf 𝓤 (code.function .locals) bs (none ∷ some (edition-val edition) ∷ some (sliceVal (b, o) (length ys)) ∷ some (vptr b₁ o₁) ∷ some (sliceVal (b₂, o₂) (length rules)) ∷ some (sliceVal (b₃, o₃) (length bytes)) ∷ some (reading-val w) ∷ some (pv (left .0)) ∷ some (pv (right .0)) ∷ some (pv (vacant .0)) ∷ []) [])) (runs C Λ En m.t-14 (atRet En Post))
       decided-on gh w left right vacant gw so =
           assigns ! (of-opd ! (load ! (from ! (hop ! (look ! 48 refl) (stop !))) (look-raw ! 3 refl))) (from ! (stop !)) (init ! 18 refl (LL.lawful Y.the-type Y′.the-laws 𝓤 H A W .typed h _ gh .0)) $
-          nothing ! $ owned ! F.the-row (Is F.the-row) (EL.makes F.the-type F′.the-plain 𝓤 H A) (handed 5 left right vacant .0) _ (handed 5 left right vacant .1) $ fjoin ! $ owned ! F.the-row (Is F.the-row) (EL.makes F.the-type F′.the-plain 𝓤 H A) (handed 4 left right vacant .0) _ (handed 4 left right vacant .1) $ fjoin ! $ owned ! F.the-row (Is F.the-row) (EL.makes F.the-type F′.the-plain 𝓤 H A) (handed 3 left right vacant .0) _ (handed 3 left right vacant .1) $ fjoin ! $ owned ! U.the-row (Is U.the-row) (EL.makes U.the-type U′.the-plain 𝓤 H A) w _ gw $ fjoin ! $
-          move ! (12 ∷ 0 ∷ []) $ fjoin ! $ owned ! Y.the-row (Is Y.the-row) (LL.makes Y.the-type Y′.the-plain 𝓤 H A) h _ gh $ fjoin ! $
+          nothing ! $ owned ! F.the-row (Is F.the-row) (EL.makes F.the-type F′.the-plain 𝓤 H A) (handed 6 left right vacant .0) _ (handed 6 left right vacant .1) $ fjoin ! $ owned ! F.the-row (Is F.the-row) (EL.makes F.the-type F′.the-plain 𝓤 H A) (handed 5 left right vacant .0) _ (handed 5 left right vacant .1) $ fjoin ! $ owned ! F.the-row (Is F.the-row) (EL.makes F.the-type F′.the-plain 𝓤 H A) (handed 4 left right vacant .0) _ (handed 4 left right vacant .1) $ fjoin ! $ owned ! U.the-row (Is U.the-row) (EL.makes U.the-type U′.the-plain 𝓤 H A) w _ gw $ fjoin ! $
+          move ! (12 ∷ 0 ∷ []) $ fjoin ! $ owned ! Y.the-row (Is Y.the-row) (LL.makes Y.the-type Y′.the-plain 𝓤 H A) h _ gh $ fjoin ! $ owned ! N.the-row (Is N.the-row) (EL.makes N.the-type N′.the-plain 𝓤 H A) edition _ ge $ fjoin ! $
           move ! (11 ∷ []) $ nothing ! $ move ! (1 ∷ 0 ∷ []) $ join ! $ use1 W (raw (alive 𝓤 H A decide′.signature (κ₂, tt) (q₂, tt))) (id⊢ 𝓤 _) $
-          call-lent ! fm decide′.ended (decide′.clauses 𝓤 H A at-mem run) (known .decide) (κ₂, tt) (q₂, tt) tt decided-val (LL.tells D.the-type D′.the-laws) (h, (rows b₂ o₂ γ₂ rules, (w, (handed 3 left right vacant .0, (handed 4 left right vacant .0, (handed 5 left right vacant .0, tt))))))
-          (tally-val h ∷ [], (at .1 .1 .0, (reading-val w ∷ [], (pv (handed 3 left right vacant .0) ∷ [], (pv (handed 4 left right vacant .0) ∷ [], (pv (handed 5 left right vacant .0) ∷ [], tt))))))
-          (‵ (owns (Y.the-row ∷ ShrSlice (named 0) κ₂ u8 ∷ U.the-row ∷ F.the-row ∷ F.the-row ∷ F.the-row ∷ []) (h, (rows b₂ o₂ γ₂ rules, (w, (handed 3 left right vacant .0, (handed 4 left right vacant .0, (handed 5 left right vacant .0, tt))))))
-          (tally-val h ∷ [], (at .1 .1 .0, (reading-val w ∷ [], (pv (handed 3 left right vacant .0) ∷ [], (pv (handed 4 left right vacant .0) ∷ [], (pv (handed 5 left right vacant .0) ∷ [], tt))))))))
-          (id⊢ 𝓤 _) tt (factI 𝓤 ((h .next < replayRecords narrow) × (h .held ≤ h .next) × (h .steps ≤ h .next)) (emp 𝓤) (told .1, told .2, told .3)) (Decided-of rules bytes ys h w (handed 3 left right vacant .0) (handed 4 left right vacant .0) (handed 5 left right vacant .0)) (λ d e. id⊢ 𝓤 _)
-          (and-then ! (load ! (from ! (stop !)) (look ! 17 refl)) (and-then ! (load ! (from ! (stop !)) (look ! 45 refl)) (and-then ! (load ! (from ! (stop !)) (look ! 41 refl)) (and-then ! (load ! (from ! (stop !)) (look ! (51 - 2 * source 3 m.s-15) refl)) (and-then ! (load ! (from ! (stop !)) (look ! (51 - 2 * source 4 m.s-15) refl)) (and-then ! (load ! (from ! (stop !)) (look ! (51 - 2 * source 5 m.s-15) refl)) (no-more !))))))) (λ d e gd.
+          call-lent ! fm decide′.ended (decide′.clauses 𝓤 H A at-mem run) (known .decide) (κ₂, tt) (q₂, tt) tt decided-val (LL.tells D.the-type D′.the-laws) (edition, (h, (rows b₂ o₂ γ₂ rules, (w, (handed 4 left right vacant .0, (handed 5 left right vacant .0, (handed 6 left right vacant .0, tt)))))))
+          (edition-val edition ∷ [], (tally-val h ∷ [], (at .1 .1 .1 .0, (reading-val w ∷ [], (pv (handed 4 left right vacant .0) ∷ [], (pv (handed 5 left right vacant .0) ∷ [], (pv (handed 6 left right vacant .0) ∷ [], tt)))))))
+          (‵ (owns (N.the-row ∷ Y.the-row ∷ ShrSlice (named 0) κ₂ u8 ∷ U.the-row ∷ F.the-row ∷ F.the-row ∷ F.the-row ∷ []) (edition, (h, (rows b₂ o₂ γ₂ rules, (w, (handed 4 left right vacant .0, (handed 5 left right vacant .0, (handed 6 left right vacant .0, tt)))))))
+          (edition-val edition ∷ [], (tally-val h ∷ [], (at .1 .1 .1 .0, (reading-val w ∷ [], (pv (handed 4 left right vacant .0) ∷ [], (pv (handed 5 left right vacant .0) ∷ [], (pv (handed 6 left right vacant .0) ∷ [], tt)))))))))
+          (id⊢ 𝓤 _) tt (factI 𝓤 ((h .next < mostRecords) × (h .held ≤ h .next) × (h .steps ≤ h .next)) (emp 𝓤) (omega (arith, told .1, replay-few edition), told .2, told .3)) (Decided-of edition rules bytes ys h w (handed 4 left right vacant .0) (handed 5 left right vacant .0) (handed 6 left right vacant .0)) (λ d e. id⊢ 𝓤 _)
+          (and-then ! (load ! (from ! (stop !)) (look ! 51 refl)) (and-then ! (load ! (from ! (stop !)) (look ! 17 refl)) (and-then ! (load ! (from ! (stop !)) (look ! 45 refl)) (and-then ! (load ! (from ! (stop !)) (look ! 41 refl)) (and-then ! (load ! (from ! (stop !)) (look ! (53 - 2 * source 4 m.s-15) refl)) (and-then ! (load ! (from ! (stop !)) (look ! (53 - 2 * source 5 m.s-15) refl)) (and-then ! (load ! (from ! (stop !)) (look ! (53 - 2 * source 6 m.s-15) refl)) (no-more !)))))))) (λ d e gd.
           land ! (from ! (stop !)) (init ! 33 refl (LL.lawful D.the-type D′.the-laws 𝓤 H A W .typed d _ gd .0)) $ forget ! 41 refl $ forget ! 39 refl $ forget ! 37 refl $ forget ! 35 refl $ forget ! 17 refl $
           use1 W (‵ (flft κ₂ q₂) ⊛ ‵ ftrue) (id⊢ 𝓤 _) $ split ! $ move ! (1 ∷ []) $ drop ! $ move ! (2 ∷ 3 ∷ []) $ join ! $ move ! (1 ∷ 0 ∷ []) $ join ! $ move ! (1 ∷ []) $ puts d gd (so d e))
         where
-          told : (length bytes ≡ recordBytes narrow) × (h .next < replayRecords narrow) × (h .held ≤ h .next) × (h .steps ≤ h .next)
-          told = fits-tells narrow (length rules) (length bytes) (tallyOf h) fit
+          told : (length bytes ≡ recordBytes edition) × (h .next < replayRecords edition) × (h .held ≤ h .next) × (h .steps ≤ h .next)
+          told = fits-tells edition (length rules) (length bytes) (tallyOf h) fit
 
       -- the three looks
-      looks : Is Y.the-row h (tally-val h ∷ []) → (w : Reading) → Is U.the-row w (reading-val w ∷ []) → readingOf w ≡ reads-as narrow true bytes
-          → Sq W (Held-open (localsOf 𝓤 (code.function .locals) bs (none ∷ some (sliceVal (b, o) (length ys)) ∷ some (vptr b₁ o₁) ∷ some (sliceVal (b₂, o₂) (length rules)) ∷ some (sliceVal (b₃, o₃) (length bytes)) ∷ some (reading-val w) ∷ []) [])) (runs C Λ En m.t-2 (atRet En Post))
+      looks : Is Y.the-row h (tally-val h ∷ []) → (w : Reading) → Is U.the-row w (reading-val w ∷ []) → readingOf w ≡ reads-as edition true bytes
+          → Sq W (Held-open (localsOf 𝓤 (code.function .locals) bs (none ∷ some (edition-val edition) ∷ some (sliceVal (b, o) (length ys)) ∷ some (vptr b₁ o₁) ∷ some (sliceVal (b₂, o₂) (length rules)) ∷ some (sliceVal (b₃, o₃) (length bytes)) ∷ some (reading-val w) ∷ []) [])) (runs C Λ En m.t-2 (atRet En Post))
       looks gh w gw e =
           assigns ! (addr ! (from ! (fld ! refl (hop ! (look-in ! 50 (sub ! 0 refl (whole !))) (stop !))))) (from ! (stop !)) (init ! 32 refl (tt, tt)) $
           assigns ! (agg ! (and-then ! (load ! (from ! (stop !)) (look ! 32 refl)) (and-then ! (load ! (from ! (fld ! refl (stop !))) (look-in ! 50 (sub ! 1 refl (whole !)))) (no-more !)))) (from ! (stop !)) (init ! 30 refl (tt, (tt, (record { fits = room .0 }, tt)))) $
@@ -304,19 +309,19 @@ module _ {M : Type 1} (𝓤 : URA M) (H : Heap 𝓤) (A : Atoms 𝓤) (W : Given
           call-find ! at-mem run fm (known .find) fullShare ys b o z₃ room g₃ (λ ν δ. (and-then ! (load ! (from ! (stop !)) (look ! 21 refl)) (and-then ! (load ! (from ! (stop !)) (look ! 29 refl)) (no-more !)))) (λ vacant e-vacant g-vacant.
           land ! (from ! (stop !)) (init ! 36 refl (EL.lawful F.the-type F′.the-laws 𝓤 H A W tt .typed vacant _ g-vacant .0)) $ forget ! 28 refl $ forget ! 22 refl $ forget ! 20 refl $
           decided-on gh w (left, g-left) (right, g-right) (vacant, g-vacant) gw
-          (says-so rules bytes ys h w e left right vacant (e-left ∙ found e₁) (e-right ∙ found e₂) (e-vacant ∙ found e₃))))))))
+          (says-so edition rules bytes ys h w e left right vacant (e-left ∙ found e₁) (e-right ∙ found e₂) (e-vacant ∙ found e₃))))))))
         where
           found : {a c : RowSought} → a ≡ c → look-for a (rowOf ys) ≡ look-for c (rowOf ys)
           found q = ap (λ (z : RowSought). look-for z (rowOf ys)) q
 
-    walk : ent 𝓤 (onEntry 𝓤 H A f.signature (κ₀, (κ₁, (κ₂, (κ₃, tt)))) (q₀, (q₁, (q₂, (q₃, tt)))) x at) (WpFn 𝓤 H C Λ code.function (sliceVal (b, o) (length ys) ∷ vptr b₁ o₁ ∷ sliceVal (b₂, o₂) (length rules) ∷ sliceVal (b₃, o₃) (length bytes) ∷ []) Post)
+    walk : ent 𝓤 (onEntry 𝓤 H A f.signature (κ₀, (κ₁, (κ₂, (κ₃, tt)))) (q₀, (q₁, (q₂, (q₃, tt)))) x at) (WpFn 𝓤 H C Λ code.function (edition-val edition ∷ sliceVal (b, o) (length ys) ∷ vptr b₁ o₁ ∷ sliceVal (b₂, o₂) (length rules) ∷ sliceVal (b₃, o₃) (length bytes) ∷ []) Post)
     walk =
-        qed W ((‵ (flft κ₀ q₀) ⊛ ‵ (flft κ₁ q₁) ⊛ ‵ (flft κ₂ q₂) ⊛ ‵ (flft κ₃ q₃) ⊛ ‵ ftrue) ∷ ‵ (owns (MutSlice (named 0) κ₀ T.the-row ∷ MutRef (named 1) κ₁ Y.the-row ∷ ShrSlice (named 2) κ₂ u8 ∷ ShrSlice (named 3) κ₃ u8 ∷ []) x at) ∷ []) ∵
-        enter ! C Λ code.function (sliceVal (b, o) (length ys) ∷ vptr b₁ o₁ ∷ sliceVal (b₂, o₂) (length rules) ∷ sliceVal (b₃, o₃) (length bytes) ∷ []) _ $
-        alloc1 ! (λ l₀. alloc1 ! (λ l₁. alloc1 ! (λ l₂. alloc1 ! (λ l₃. alloc1 ! (λ l₄. alloc1 ! (λ l₅. alloc1 ! (λ l₆. alloc1 ! (λ l₇. alloc1 ! (λ l₈. alloc1 ! (λ l₉. alloc1 ! (λ l₁₀. alloc1 ! (λ l₁₁. alloc1 ! (λ l₁₂. alloc1 ! (λ l₁₃. alloc1 ! (λ l₁₄. alloc1 ! (λ l₁₅. alloc1 ! (λ l₁₆. alloc1 ! (λ l₁₇. alloc1 ! (λ l₁₈. alloc1 ! (λ l₁₉. alloc1 ! (λ l₂₀. alloc0 ! $ params1 ! $
-        pass1 ! (init ! 38 refl (tt, (tt, (record { fits = room .0 }, tt)))) $ pass1 ! (init ! 36 refl (tt, tt)) $ pass1 ! (init ! 34 refl (tt, (tt, (record { fits = room₂ .0 }, tt)))) $ pass1 ! (init ! 32 refl (tt, (tt, (record { fits = room₃ .0 }, tt)))) $ pass0 ! $
+        qed W ((‵ (flft κ₀ q₀) ⊛ ‵ (flft κ₁ q₁) ⊛ ‵ (flft κ₂ q₂) ⊛ ‵ (flft κ₃ q₃) ⊛ ‵ ftrue) ∷ ‵ (owns (N.the-row ∷ MutSlice (named 0) κ₀ T.the-row ∷ MutRef (named 1) κ₁ Y.the-row ∷ ShrSlice (named 2) κ₂ u8 ∷ ShrSlice (named 3) κ₃ u8 ∷ []) x at) ∷ []) ∵
+        enter ! C Λ code.function (edition-val edition ∷ sliceVal (b, o) (length ys) ∷ vptr b₁ o₁ ∷ sliceVal (b₂, o₂) (length rules) ∷ sliceVal (b₃, o₃) (length bytes) ∷ []) _ $
+        alloc1 ! (λ l₀. alloc1 ! (λ l₁. alloc1 ! (λ l₂. alloc1 ! (λ l₃. alloc1 ! (λ l₄. alloc1 ! (λ l₅. alloc1 ! (λ l₆. alloc1 ! (λ l₇. alloc1 ! (λ l₈. alloc1 ! (λ l₉. alloc1 ! (λ l₁₀. alloc1 ! (λ l₁₁. alloc1 ! (λ l₁₂. alloc1 ! (λ l₁₃. alloc1 ! (λ l₁₄. alloc1 ! (λ l₁₅. alloc1 ! (λ l₁₆. alloc1 ! (λ l₁₇. alloc1 ! (λ l₁₈. alloc1 ! (λ l₁₉. alloc1 ! (λ l₂₀. alloc1 ! (λ l₂₁. alloc0 ! $ params1 ! $
+        pass1 ! (init ! 40 refl (EL.lawful N.the-type N′.the-laws 𝓤 H A W tt .typed edition _ ge .0)) $ pass1 ! (init ! 38 refl (tt, (tt, (record { fits = room .0 }, tt)))) $ pass1 ! (init ! 36 refl (tt, tt)) $ pass1 ! (init ! 34 refl (tt, (tt, (record { fits = room₂ .0 }, tt)))) $ pass1 ! (init ! 32 refl (tt, (tt, (record { fits = room₃ .0 }, tt)))) $ pass0 ! $
         -- the row's borrow is opened
-        move ! (43 ∷ []) $ fsplit ! $ fsplit ! $ move ! (1 ∷ []) $ fsplit ! $ move ! (46 ∷ []) $ split ! $ move ! (2 ∷ 3 ∷ 0 ∷ []) $ opens-slice ! tt T.the-row ys b o $
+        move ! (45 ∷ []) $ fsplit ! $ drop ! $ fsplit ! $ fsplit ! $ move ! (1 ∷ []) $ fsplit ! $ move ! (48 ∷ []) $ split ! $ move ! (2 ∷ 3 ∷ 0 ∷ []) $ opens-slice ! tt T.the-row ys b o $
         -- [the row; the open borrow; obs; auth; the other tokens; slots's fact; what the others own; locals]: the tally's is opened
         move ! (6 ∷ []) $ fsplit ! $ fsplit3 ! $ drop ! $ move ! (7 ∷ []) $ split ! $ move ! (2 ∷ 3 ∷ 0 ∷ []) $
         opens ! tt Y.the-row {h = h} b₁ o₁ (λ vs. spelt ! Y.the-row (Is Y.the-row) (shows 𝓤 H A Y.the-row) (LL.vals Y.the-type Y′.the-laws) (LL.tells Y.the-type Y′.the-laws) fullShare h vs b₁ o₁ $
@@ -326,31 +331,31 @@ module _ {M : Type 1} (𝓤 : URA M) (H : Heap 𝓤) (A : Atoms 𝓤) (W : Given
         -- [what bytes owns 0; true 1; what rules owns 2; the row 3; the tally's cell 4; what it owns 5; its open borrow 6; obs 7; auth 8; the other tokens 9; the row's open borrow 10; obs 11; auth 12; slots's fact 13; locals from 14]
         move ! (9 ∷ []) $ split ! $ move ! (1 ∷ []) $ split ! $
         -- [bytes's token 0; true 1; rules's token 2; what bytes owns 3; true 4; what rules owns 5; the row 6; the tally's cell 7; what it owns 8; its open borrow 9; obs 10; auth 11; the row's open borrow 12; obs 13; auth 14; slots's fact 15; locals from 16]
-        keep ! (6 ∷ 7 ∷ 9 ∷ 10 ∷ 11 ∷ 12 ∷ 13 ∷ 14 ∷ 2 ∷ 0 ∷ 5 ∷ 3 ∷ 16 ∷ 17 ∷ 18 ∷ 19 ∷ 20 ∷ 21 ∷ 22 ∷ 23 ∷ 24 ∷ 25 ∷ 26 ∷ 27 ∷ 28 ∷ 29 ∷ 30 ∷ 31 ∷ 32 ∷ 33 ∷ 34 ∷ 35 ∷ 36 ∷ 37 ∷ 38 ∷ 39 ∷ 40 ∷ 41 ∷ 42 ∷ 43 ∷ 44 ∷ 45 ∷ 46 ∷ 47 ∷ 48 ∷ 49 ∷ 50 ∷ 51 ∷ 52 ∷ 53 ∷ 54 ∷ 55 ∷ 56 ∷ 57 ∷ []) $
-        -- [the row 0; the tally's cell 1; its open borrow 2; obs 3; auth 4; the row's open borrow 5; obs 6; auth 7; rules's token 8; bytes's 9; what rules owns 10; what bytes owns 11; locals from 12]: read(bytes)
-        move ! (11 ∷ []) $ nothing ! $ move ! (1 ∷ 0 ∷ []) $ fjoin ! $ move ! (10 ∷ []) $ nothing ! $ move ! (1 ∷ 0 ∷ []) $ join ! $ use1 W (raw (alive 𝓤 H A read′.signature (κ₃, tt) (q₃, tt))) (id⊢ 𝓤 _) $
-        call-lent ! fm read′.ended (read′.clauses 𝓤 H A at-mem run) (known .read) (κ₃, tt) (q₃, tt) tt reading-val (EL.tells U.the-type U′.the-laws) (rows b₃ o₃ γ₃ bytes, tt) (at .1 .1 .1 .0, tt)
-        (‵ (owns (ShrSlice (named 0) κ₃ u8 ∷ []) (rows b₃ o₃ γ₃ bytes, tt) (at .1 .1 .1 .0, tt))) (id⊢ 𝓤 _) tt (factI 𝓤 (recordBytes narrow ≤ length bytes) (emp 𝓤) long) (λ w. readingOf w ≡ reads-as narrow true bytes) (λ w e. id⊢ 𝓤 _) (and-then ! (load ! (from ! (stop !)) (look ! 43 refl)) (no-more !)) (λ w e gw.
+        keep ! (6 ∷ 7 ∷ 9 ∷ 10 ∷ 11 ∷ 12 ∷ 13 ∷ 14 ∷ 2 ∷ 0 ∷ 5 ∷ 3 ∷ 16 ∷ 17 ∷ 18 ∷ 19 ∷ 20 ∷ 21 ∷ 22 ∷ 23 ∷ 24 ∷ 25 ∷ 26 ∷ 27 ∷ 28 ∷ 29 ∷ 30 ∷ 31 ∷ 32 ∷ 33 ∷ 34 ∷ 35 ∷ 36 ∷ 37 ∷ 38 ∷ 39 ∷ 40 ∷ 41 ∷ 42 ∷ 43 ∷ 44 ∷ 45 ∷ 46 ∷ 47 ∷ 48 ∷ 49 ∷ 50 ∷ 51 ∷ 52 ∷ 53 ∷ 54 ∷ 55 ∷ 56 ∷ 57 ∷ 58 ∷ 59 ∷ []) $
+        -- [the row 0; the tally's cell 1; its open borrow 2; obs 3; auth 4; the row's open borrow 5; obs 6; auth 7; rules's token 8; bytes's 9; what rules owns 10; what bytes owns 11; locals from 12]: read(edition, bytes)
+        move ! (11 ∷ []) $ nothing ! $ move ! (1 ∷ 0 ∷ []) $ fjoin ! $ owned ! N.the-row (Is N.the-row) (EL.makes N.the-type N′.the-plain 𝓤 H A) edition _ ge $ fjoin ! $ move ! (10 ∷ []) $ nothing ! $ move ! (1 ∷ 0 ∷ []) $ join ! $ use1 W (raw (alive 𝓤 H A read′.signature (κ₃, tt) (q₃, tt))) (id⊢ 𝓤 _) $
+        call-lent ! fm read′.ended (read′.clauses 𝓤 H A at-mem run) (known .read) (κ₃, tt) (q₃, tt) tt reading-val (EL.tells U.the-type U′.the-laws) (edition, (rows b₃ o₃ γ₃ bytes, tt)) (edition-val edition ∷ [], (at .1 .1 .1 .1 .0, tt))
+        (‵ (owns (N.the-row ∷ ShrSlice (named 0) κ₃ u8 ∷ []) (edition, (rows b₃ o₃ γ₃ bytes, tt)) (edition-val edition ∷ [], (at .1 .1 .1 .1 .0, tt)))) (id⊢ 𝓤 _) tt (factI 𝓤 (recordBytes edition ≤ length bytes) (emp 𝓤) long) (λ w. readingOf w ≡ reads-as edition true bytes) (λ w e. id⊢ 𝓤 _) (and-then ! (load ! (from ! (stop !)) (look ! 51 refl)) (and-then ! (load ! (from ! (stop !)) (look ! 43 refl)) (no-more !))) (λ w e gw.
         land ! (from ! (stop !)) (init ! 41 refl (EL.lawful U.the-type U′.the-laws 𝓤 H A W tt .typed w _ gw .0)) $
-        use1 W (‵ (flft κ₃ q₃) ⊛ ‵ ftrue) (id⊢ 𝓤 _) $ split ! $ move ! (2 ∷ []) $ looks l₀ l₁ l₂ l₃ l₄ l₅ l₆ l₇ l₈ l₉ l₁₀ l₁₁ l₁₂ l₁₃ l₁₄ l₁₅ l₁₆ l₁₇ l₁₈ l₁₉ l₂₀ gh w gw e))))))))))))))))))))))))
+        use1 W (‵ (flft κ₃ q₃) ⊛ ‵ ftrue) (id⊢ 𝓤 _) $ split ! $ move ! (2 ∷ []) $ looks l₀ l₁ l₂ l₃ l₄ l₅ l₆ l₇ l₈ l₉ l₁₀ l₁₁ l₁₂ l₁₃ l₁₄ l₁₅ l₁₆ l₁₇ l₁₈ l₁₉ l₂₀ l₂₁ gh w gw e)))))))))))))))))))))))))
       where
-        long : recordBytes narrow ≤ length bytes
-        long = le-of-eq (sym (fits-tells narrow _ _ _ fit .0))
+        long : recordBytes edition ≤ length bytes
+        long = le-of-eq (sym (fits-tells edition _ _ _ fit .0))
 
 module _ {M : Type 1} (𝓤 : URA M) (H : Heap 𝓤) (A : Atoms 𝓤) (W : Given 𝓤 H A) (at-mem : Memory → SProp 𝓤) (run : Routine → Fun 𝓤) where
   walks : (C : Calls 𝓤 H) (Λ : Loops 𝓤 H) → FmC 𝓤 H (W .laws) C → Known 𝓤 H A at-mem run C
       → Walks 𝓤 H A f.ended stayed (WpFn 𝓤 H C Λ code.function) (f.clauses 𝓤 H A at-mem run)
   walks C Λ fm known =
-      walked 𝓤 H A f.ended stayed (f.clauses 𝓤 H A at-mem run) (WpFn 𝓤 H C Λ code.function) (λ κs. (slice-vals, (ptr-vals, (slice-vals, (slice-vals, tt)))))
-      (λ κs. (mut-slice-tells (named 0) (κs .0) T.the-row, (mut-tells (named 1) (κs .1 .0) Y.the-row, (shr-slice-tells (named 2) (κs .1 .1 .0) u8, (shr-slice-tells (named 3) (κs .1 .1 .1 .0) u8, tt)))))
-      (λ κs qs bounds a g are. needs 𝓤 (fits narrow (length (a .1 .1 .0 .now)) (length (a .1 .1 .1 .0 .now)) (tallyOf (a .1 .0 .now)) ≡ true) _ (λ fit. walk 𝓤 H A W at-mem run (κs .0) (κs .1 .0) (κs .1 .1 .0) (κs .1 .1 .1 .0) (qs .0) (qs .1 .0) (qs .1 .1 .0) (qs .1 .1 .1 .0) (a .0 .ptr .0) (a .0 .ptr .1) (a .0 .name) (a .1 .0 .ptr .0) (a .1 .0 .ptr .1) (a .1 .0 .name)
-      (a .1 .1 .0 .ptr .0) (a .1 .1 .0 .ptr .1) (a .1 .1 .0 .name) (a .1 .1 .1 .0 .ptr .0) (a .1 .1 .1 .0 .ptr .1) (a .1 .1 .1 .0 .name) (a .0 .now) (a .1 .0 .now) (a .1 .1 .0 .now) (a .1 .1 .1 .0 .now) (are .0 .0 .1) (are .1 .1 .0 .0 .1) (are .1 .1 .1 .0 .0 .1) fit C Λ fm known))
+      walked 𝓤 H A f.ended stayed (f.clauses 𝓤 H A at-mem run) (WpFn 𝓤 H C Λ code.function) (λ κs. (EL.vals N.the-type N′.the-laws, (slice-vals, (ptr-vals, (slice-vals, (slice-vals, tt))))))
+      (λ κs. (EL.tells N.the-type N′.the-laws, (mut-slice-tells (named 0) (κs .0) T.the-row, (mut-tells (named 1) (κs .1 .0) Y.the-row, (shr-slice-tells (named 2) (κs .1 .1 .0) u8, (shr-slice-tells (named 3) (κs .1 .1 .1 .0) u8, tt))))))
+      (λ κs qs bounds a g are. needs 𝓤 (fits (a .0) (length (a .1 .1 .1 .0 .now)) (length (a .1 .1 .1 .1 .0 .now)) (tallyOf (a .1 .1 .0 .now)) ≡ true) _ (λ fit. walk 𝓤 H A W at-mem run (κs .0) (κs .1 .0) (κs .1 .1 .0) (κs .1 .1 .1 .0) (qs .0) (qs .1 .0) (qs .1 .1 .0) (qs .1 .1 .1 .0) (a .1 .0 .ptr .0) (a .1 .0 .ptr .1) (a .1 .0 .name) (a .1 .1 .0 .ptr .0) (a .1 .1 .0 .ptr .1) (a .1 .1 .0 .name)
+      (a .1 .1 .1 .0 .ptr .0) (a .1 .1 .1 .0 .ptr .1) (a .1 .1 .1 .0 .name) (a .1 .1 .1 .1 .0 .ptr .0) (a .1 .1 .1 .1 .0 .ptr .1) (a .1 .1 .1 .1 .0 .name) (a .0) (a .1 .0 .now) (a .1 .1 .0 .now) (a .1 .1 .1 .0 .now) (a .1 .1 .1 .1 .0 .now) (are .0) (are .1 .0 .0 .1) (are .1 .1 .1 .0 .0 .1) (are .1 .1 .1 .1 .0 .0 .1) fit C Λ fm known))
 
 meets : {M : Type 1} (𝓤 : URA M) (H : Heap 𝓤) (A : Atoms 𝓤) → Given 𝓤 H A → (at-mem : Memory → SProp 𝓤) (run : Routine → Fun 𝓤) (𝓣 : Tables 𝓤 H)
     → Known 𝓤 H A at-mem run (𝓣 .C)
     → Meets 𝓤 H A f.signature (WpFn 𝓤 H (𝓣 .C) (𝓣 .Λ) code.function) (f.spec 𝓤 H A at-mem run)
 meets 𝓤 H A W at-mem run 𝓣 known = walk-meets 𝓤 H A f.ended stayed W
-    (goes-slice 𝓤 H A W 4 0 tt (plain (λ _. T.the-row)), (goes-ref 𝓤 H A W 4 1 tt (plain (λ _. Y.the-row)), (goes-dropped 𝓤 H A W 4 (shrSliceOf (2 ∷ []) tt (plain (λ _. u8))) yes (λ κs x f. refl), (goes-dropped 𝓤 H A W 4 (shrSliceOf (3 ∷ []) tt (plain (λ _. u8))) yes (λ κs x f. refl), tt))))
+    (goes-dropped 𝓤 H A W 4 (plain (λ _. N.the-row)) yes (λ κs x f. refl), (goes-slice 𝓤 H A W 4 0 tt (plain (λ _. T.the-row)), (goes-ref 𝓤 H A W 4 1 tt (plain (λ _. Y.the-row)), (goes-dropped 𝓤 H A W 4 (shrSliceOf (2 ∷ []) tt (plain (λ _. u8))) yes (λ κs x f. refl), (goes-dropped 𝓤 H A W 4 (shrSliceOf (3 ∷ []) tt (plain (λ _. u8))) yes (λ κs x f. refl), tt)))))
     (f.clauses 𝓤 H A at-mem run) (WpFn 𝓤 H (𝓣 .C) (𝓣 .Λ) code.function) (WpFn-mono 𝓤 H (W .laws) 𝓣 code.function) (walks 𝓤 H A W at-mem run (𝓣 .C) (𝓣 .Λ) (fmOf 𝓤 H (W .laws) 𝓣) known)
 
 pub take-spec : {M : Type 1} → stated.statement M

@@ -4,9 +4,12 @@ use borrow.Author.Needs.{needs}
 use Rattle.replay_verdict.proofs.fits.Statement.{statement}
 use Rattle.replay_verdict.proofs.fits.Tie as tie
 
+record-bytes-requires : tie.Need-record-bytes-requires
+record-bytes-requires c κs = search needs
+
 returns : tie.Need-returns
 unfolding fits
-returns c = simp (ne-eqb _ _ (c .if1 .taken))
+returns c = simp (← c .before .record-bytes .ensures, ne-eqb _ _ (c .if1 .taken))
 
 check-table-requires : tie.Need-check-table-requires
 check-table-requires c κs = search needs
@@ -19,19 +22,22 @@ enum-told-2 c = search needs
 
 returns-2 : tie.Need-returns-2
 unfolding fits passes
-returns-2 c = simp (eq-eqb _ _ (c .before .before .before .if1 .left), ← c .before .before .check-table .ensures, c .enum-told2 .given .1)
+returns-2 c = let table = c .before .before in
+    simp (← table .before .before .record-bytes .ensures, eq-eqb _ _ (table .before .if1 .left), ← table .check-table .ensures, c .enum-told2 .given .1)
 
 within-requires : tie.Need-within-requires
 within-requires c κs = search needs
 
 returns-3 : tie.Need-returns-3
 unfolding fits passes
-returns-3 c = simp (c .within .ensures, eq-eqb _ _ (c .before .before .before .before .if1 .left), ← c .before .before .before .check-table .ensures, c .before .enum-told .given .1)
+returns-3 c = let table = c .before .before .before in
+    simp (← table .before .before .record-bytes .ensures, c .within .ensures, eq-eqb _ _ (table .before .if1 .left), ← table .check-table .ensures, c .before .enum-told .given .1)
 
 pub fits-spec : {M : Type 1} → statement M
 fits-spec =
     tie.close
     (tie.spec
+    record-bytes-requires
     returns
     check-table-requires
     enum-told
