@@ -48,7 +48,7 @@ def trace(lines):
 def case(block):
     words = block[0].split()
     said, refused = answer(block[1].split())
-    edition = words[1]
+    edition = words[1].capitalize()
     sheet, _ = byte_list(words[2])
     rules, _ = byte_list(words[3])
     if words[0] == "press":
@@ -73,7 +73,9 @@ use mathlib.Core.List.{List, [], _∷_, _++_}
 use lib.Dec.{T}
 use lib.ListN.{length}
 use Rattle.base.specs.Bytes.{bytes, flat}
-use Rattle.sheet.specs.Editions.{Edition, EDITIONS, recordBytes}
+use Rattle.sheet.specs.Editions.{recordBytes}
+use Rattle.sheet.specs.declared.edition.Edition.{Edition}
+use Rattle.sheet.specs.declared.edition.Edition.the-variants.{EDITIONS}
 use Rattle.sheet.specs.Fields.{recordAt}
 use Rattle.replay_spec.specs.Step.{State, Turn, goes, stops, turn}
 use Rattle.replay_spec.specs.Slots.{Slot}
@@ -135,7 +137,7 @@ def main():
         mods = ["Trace"] + [f"Batch{i}" for i in range(len(batches))]
         (specs / "Lib.antt").write_text("".join(f"pub mod {m}\n" for m in mods))
         named = [args.edition] if args.edition else EDITIONS
-        head = HEAD.replace("EDITIONS", ", ".join(named))
+        head = HEAD.replace("EDITIONS", ", ".join(edition.capitalize() for edition in named))
         (specs / "Trace.antt").write_text(head + TRACE)
         for i, batch in enumerate(batches):
             text = head + "use Rattle.scratch.specs.Trace.{pressed, replayed, stateNumbers, states, traced}\n"

@@ -1,5 +1,5 @@
 -- A sheet of copies of one given record is proper, and what is counted of it.
-use Prim.Native.Nat.{ℕ, zero, suc, _+_, _-_, _<_, _≤_}
+use Prim.Native.Nat.{ℕ, zero, suc, _+_, _-_, _/_, _%_, _<_, _≤_}
 use mathlib.Core.Path.{_≡_, refl, sym, ap, _∙_}
 use mathlib.Core.Bool.{Bool, true≢false}
 use mathlib.Core.List.{List, [], _∷_, append-nil}
@@ -8,9 +8,11 @@ use lib.Dec.{lit<}
 use lib.ListN.{length, getD, replicate, length-replicate, getD-replicate}
 use Rattle.clause.specs.Clauses.{Literals, plus, none}
 use Rattle.clause.proofs.Clauses.{holds-none}
-use Rattle.sheet.specs.Editions.{Edition, narrow, lineBytes}
-use Rattle.sheet.specs.Records.{Node, given, Record, node, drop, reads, clause, nodeAt}
-use Rattle.sheet.specs.Fields.{reading, recordAt, sheetBytes, ruleLines, ruleLine}
+use Rattle.sheet.specs.declared.edition.Edition.{Edition}
+use Rattle.sheet.specs.declared.edition.Edition.the-variants.{Narrow, Wide}
+use Rattle.sheet.specs.Editions.{lineBytes}
+use Rattle.sheet.specs.Records.{Node, given, Record, node, drop, clause, nodeAt}
+use Rattle.sheet.specs.Fields.{sheetBytes, ruleLines, ruleLine}
 use Rattle.sheet.specs.Counts.{nodesOf, stepOf, stepsOf, peakFrom}
 use Rattle.sheet.specs.Proper.{recordIn, conclusionOf, ReadsAs, Proper}
 use Rattle.sheet.proofs.RecordBytes.{length-sheetBytes, recordAt-sheet, reading-written, ruleLine-below}
@@ -86,19 +88,24 @@ module _ (e : Edition) (rules : List ℕ) (line : HasLine e rules) (n : ℕ) whe
       ap (λ (s : List Node). clause (nodeAt s (length s - 1))) (nodes-of n (given 0 c))
       ∙ ap clause (getD-replicate n (length (replicate n (given 0 c)) - 1) (given 0 c) (given 0 none) (omega (arith, some, length-replicate n (given 0 c))))
 
-line-of-zeros : ruleLine narrow (replicate (lineBytes narrow) 0) 0 ≡ none
+line-of-zeros : (e : Edition) → ruleLine e (replicate (lineBytes e) 0) 0 ≡ none
 unfolding computing
-line-of-zeros = refl
+line-of-zeros Narrow = refl
+line-of-zeros Wide = refl
+
+one-line : (e : Edition) → (length {A = ℕ} (replicate (lineBytes e) 0) % lineBytes e ≡ 0) × (length {A = ℕ} (replicate (lineBytes e) 0) / lineBytes e ≡ 1)
+one-line Narrow = (refl, refl)
+one-line Wide = (refl, refl)
 
 -- there are such tables, as one line with no literal
-pub has-line : HasLine narrow (replicate (lineBytes narrow) 0)
+pub has-line : (e : Edition) → HasLine e (replicate (lineBytes e) 0)
 unfolding ruleLines
-has-line = record {
-  rule-bytes = zeros (lineBytes narrow);
-  whole = refl;
-  few = omega arith;
-  some = omega arith;
-  one-way = λ b. true≢false (sym (rw line-of-zeros at (b .1)) ∙ holds-none (plus (b .0)));
+has-line e = record {
+  rule-bytes = zeros (lineBytes e);
+  whole = one-line e .0;
+  few = omega (arith, one-line e .1);
+  some = omega (arith, one-line e .1);
+  one-way = λ b. true≢false (sym (rw (line-of-zeros e) at (b .1)) ∙ holds-none (plus (b .0)));
 }
   where
     zeros : (n i : ℕ) → getD (replicate n 0) i 0 < 256

@@ -1,9 +1,9 @@
 -- 3 is given exactly beyond the limits on the number of records.
 use Prim.Native.Nat.{ℕ, _*_, _/_, _%_, _<_, _≤_}
-use mathlib.Core.Path.{_≡_, refl, sym, ap, _∙_}
+use mathlib.Core.Path.{_≡_, refl, sym, _∙_}
 use mathlib.Core.Bool.{Bool, true, false, not, _&&_, and-eq-true-iff}
 use mathlib.Core.List.{List}
-use mathlib.Core.Logic.{_⊎_, inl, inr}
+use mathlib.Core.Logic.{inl, inr}
 use native.Mathlib.Nat.{mul-div-right, mul-mod-right, mul-pos}
 use native.Mathlib.Omega.{arith}
 use lib.Dec.{ltb, leb}
@@ -12,13 +12,15 @@ use borrow.Author.Tests.{eq-eqb, ne-eqb, lt-leb, ltb-true, leb-true}
 use Rattle.sheet.specs.declared.Reason.{Reason}
 use Rattle.sheet.specs.declared.Reason.the-variants.{Long, NotHeld}
 use Rattle.sheet.specs.declared.Verdict.the-variants.{Refused}
-use Rattle.sheet.specs.Editions.{Edition, narrow, recordBytes, pressRecords, replayRecords}
+use Rattle.sheet.specs.declared.edition.Edition.{Edition}
+use Rattle.sheet.specs.declared.edition.Edition.the-variants.{Narrow, Wide}
+use Rattle.sheet.specs.Editions.{recordBytes, pressRecords, replayRecords}
 use Rattle.sheet.specs.Reasons.{numberOf, unless, andThen}
 use Rattle.sheet.specs.Fields.{sheetBytes}
 use Rattle.sheet.specs.Checks.{checkLengths}
 use Rattle.sheet.specs.Refusals.{FirstOf, Lent, LengthApplies, lengthsInOrder, LentRefused, Place, RecordRefused, Applies, checksInOrder}
 use Rattle.sheet.proofs.Reasons.{numberOf-injective}
-use Rattle.sheet.proofs.RecordBytes.{record-size}
+use Rattle.sheet.proofs.Sizes.{record-size}
 use Rattle.sheet.proofs.Refused.{first-applies}
 use Rattle.replay_spec.specs.Replay as Replay
 use Rattle.replay_spec.specs.Refused as ReplayRefused
@@ -128,16 +130,16 @@ told most last first q =
     let (some, few) = and-eq-true-iff (ltb 0 last) (leb last most) .0 within in
     (ltb-true 0 last some, leb-true last most few, ltb-true most first over)
 
-press-limit : {last first : ℕ} → beside (pressRecords narrow) last first ≡ true → PressLimit last first
-press-limit {last} {first} q =
-    let (some, few, over) = told (pressRecords narrow) last first q in
-    record { takes = limits narrow last .0 few .0; fills = limits narrow last .0 few .1 some; turns-away = limits narrow first .1 over }
+press-limit : (e : Edition) {last first : ℕ} → beside (pressRecords e) last first ≡ true → PressLimit e last first
+press-limit e {last} {first} q =
+    let (some, few, over) = told (pressRecords e) last first q in
+    record { takes = limits e last .0 few .0; fills = limits e last .0 few .1 some; turns-away = limits e first .1 over }
 
-replay-limit : {last first : ℕ} → beside (replayRecords narrow) last first ≡ true → ReplayLimit last first
-replay-limit {last} {first} q =
-    let (some, few, over) = told (replayRecords narrow) last first q in
-    record { takes = limits narrow last .2 few .0; fills = limits narrow last .2 few .1 some; turns-away = limits narrow first .3 over }
+replay-limit : (e : Edition) {last first : ℕ} → beside (replayRecords e) last first ≡ true → ReplayLimit e last first
+replay-limit e {last} {first} q =
+    let (some, few, over) = told (replayRecords e) last first q in
+    record { takes = limits e last .2 few .0; fills = limits e last .2 few .1 some; turns-away = limits e first .3 over }
 
 -- by computing
 pub at-the-limits : AtTheLimits
-at-the-limits = (press-limit refl, replay-limit refl)
+at-the-limits = (press-limit Narrow refl, replay-limit Narrow refl, press-limit Wide refl, replay-limit Wide refl)

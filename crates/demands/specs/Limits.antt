@@ -1,11 +1,13 @@
--- "1,024 input records and 2,047 for the replay": so many are not refused by 3, one more is. Said of any bytes of so many records, whatever they hold, and
+-- "1,024 input records and 2,047 for the replay", and of the wide edition "512 input records and 1,023 for its replay": so many are not refused by 3, one more is. Said of any bytes of so many records, whatever they hold, and
 -- of whatever rule table, room, marks and slots are lent.
 use Prim.Native.Nat.{ℕ, _-_, _*_, _%_, _<_, _≤_}
 use mathlib.Core.Path.{_≡_}
 use mathlib.Core.List.{List}
 use lib.ListN.{length, replicate}
 use Rattle.clause.specs.Clauses.{BothWays}
-use Rattle.sheet.specs.Editions.{Edition, narrow, recordBytes, lineBytes, pressRecords, replayRecords, tableLines}
+use Rattle.sheet.specs.declared.edition.Edition.{Edition}
+use Rattle.sheet.specs.declared.edition.Edition.the-variants.{Narrow, Wide}
+use Rattle.sheet.specs.Editions.{recordBytes, lineBytes, pressRecords, replayRecords, tableLines}
 use Rattle.sheet.specs.Records.{given, Record, node}
 use Rattle.sheet.specs.Fields.{sheetBytes, ruleLines, ruleLine}
 use Rattle.replay_spec.specs.Slots.{Slot}
@@ -76,15 +78,15 @@ Limits =
 
 -- ---- in the document's numbers: the last that is taken, and the first that is not
 
-pub record PressLimit (last first : ℕ) : Type 0 where
-  pub takes : PressTakes narrow last
-  pub fills : PressFills narrow last
-  pub turns-away : PressTurnsAway narrow first
+pub record PressLimit (e : Edition) (last first : ℕ) : Type 0 where
+  pub takes : PressTakes e last
+  pub fills : PressFills e last
+  pub turns-away : PressTurnsAway e first
 
-pub record ReplayLimit (last first : ℕ) : Type 0 where
-  pub takes : ReplayTakes narrow last
-  pub fills : ReplayFills narrow last
-  pub turns-away : ReplayTurnsAway narrow first
+pub record ReplayLimit (e : Edition) (last first : ℕ) : Type 0 where
+  pub takes : ReplayTakes e last
+  pub fills : ReplayFills e last
+  pub turns-away : ReplayTurnsAway e first
 
 abbrev pub AtTheLimits : Type 0
-AtTheLimits = PressLimit 1024 1025 × ReplayLimit 2047 2048
+AtTheLimits = PressLimit Narrow 1024 1025 × ReplayLimit Narrow 2047 2048 × PressLimit Wide 512 513 × ReplayLimit Wide 1023 1024
