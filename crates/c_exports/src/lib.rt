@@ -1,42 +1,46 @@
-// The C interface: the press and the replay with numbers, slices and references only, as include/tempuquile.h declares them.
+// The C interface: the press and the replay with numbers, slices and references only, as include/tempuquile.h declares them. `edition` is 0
+// for the narrow edition and 1 for the wide one; any other number is answered 255, and nothing is touched.
 ghost use mathlib.Core.Path.{_≡_};
-ghost use Rattle.sheet.specs.Editions.{narrow};
-ghost use Rattle.press_spec.specs.Press.{call, press};
-ghost use Rattle.replay_spec.specs.Replay.{replay};
+ghost use Rattle.press_spec.specs.Press.{call};
 ghost use Rattle.replay_slots.specs.Said.{rowOf};
-ghost use Rattle.c_report.specs.Report.{fill, pressCode, pressWords, replayCode, replayWords};
+ghost use Rattle.c_exports.specs.Calls.{pressing, pressBy, replaying, replayBy};
 use replay_slots::Slot;
 
 // Presses `sheet` against `rules` into `out`, marks the rule lines used in `marks`, and fills `report` with the record, positive,
-// negative, records, nodes, steps, peak and marked, as many as fit. Answers 0, or the number of the refusal.
+// negative, records, nodes, steps, peak, marked and the sets' high words, as many as fit. Answers 0, or the number of the refusal.
 #[no_mangle]
 pub extern "C" fn tempuquile_press(
+    edition: u32,
     sheet: &[u8],
     rules: &[u8],
     out: &mut [u8],
     marks: &mut [u8],
     report: &mut [u64],
 ) -> u32
-    ensures code { λ r. ⌜ r ≡ pressCode (press narrow (call (now (sheet .entry)) (now (rules .entry)) (now (out .entry)) (now (marks .entry))) .answer) ⌝ }
-    ensures out { λ r. ⌜ now (out .exit) ≡ press narrow (call (now (sheet .entry)) (now (rules .entry)) (now (out .entry)) (now (marks .entry))) .out ⌝ }
-    ensures marks { λ r. ⌜ now (marks .exit) ≡ press narrow (call (now (sheet .entry)) (now (rules .entry)) (now (out .entry)) (now (marks .entry))) .marks ⌝ }
-    ensures report { λ r. ⌜ now (report .exit) ≡ fill 0 (pressWords (press narrow (call (now (sheet .entry)) (now (rules .entry)) (now (out .entry)) (now (marks .entry))) .answer)) (now (report .entry)) ⌝ }
+    ensures { λ r. ⌜ pressing r (now (out .exit)) (now (marks .exit)) (now (report .exit)) ≡ pressBy edition (call (now (sheet .entry)) (now (rules .entry)) (now (out .entry)) (now (marks .entry))) (now (report .entry)) ⌝ }
 {
-    c_report::tell_press(press::press(sheet, rules, out, marks), report)
+    if c_report::names_edition(edition) {
+        let named = c_report::edition_of(edition);
+        return c_report::tell_press(press::press(named, sheet, rules, out, marks), report);
+    }
+    c_report::NO_EDITION
 }
 
-// Replays `sheet` against `rules` in `slots`, and fills `report` with the record, positive, negative, nodes, steps and peak, as many
-// as fit. Answers 0, or the number of the refusal.
+// Replays `sheet` against `rules` in `slots`, and fills `report` with the record, positive, negative, nodes, steps, peak and the sets'
+// high words, as many as fit. Answers 0, or the number of the refusal.
 #[no_mangle]
 pub extern "C" fn tempuquile_replay(
+    edition: u32,
     sheet: &[u8],
     rules: &[u8],
     slots: &mut [Slot],
     report: &mut [u64],
 ) -> u32
-    ensures code { λ r. ⌜ r ≡ replayCode (replay narrow (now (sheet .entry)) (now (rules .entry)) (rowOf (now (slots .entry))) .answer) ⌝ }
-    ensures slots { λ r. ⌜ rowOf (now (slots .exit)) ≡ replay narrow (now (sheet .entry)) (now (rules .entry)) (rowOf (now (slots .entry))) .slots ⌝ }
-    ensures report { λ r. ⌜ now (report .exit) ≡ fill 0 (replayWords (replay narrow (now (sheet .entry)) (now (rules .entry)) (rowOf (now (slots .entry))) .answer)) (now (report .entry)) ⌝ }
+    ensures { λ r. ⌜ replaying r (rowOf (now (slots .exit))) (now (report .exit)) ≡ replayBy edition (now (sheet .entry)) (now (rules .entry)) (rowOf (now (slots .entry))) (now (report .entry)) ⌝ }
 {
-    c_report::tell_replay(replay::replay(sheet, rules, slots), report)
+    if c_report::names_edition(edition) {
+        let named = c_report::edition_of(edition);
+        return c_report::tell_replay(replay::replay(named, sheet, rules, slots), report);
+    }
+    c_report::NO_EDITION
 }

@@ -1,7 +1,12 @@
 -- What the C interface answers: 0 or the refusal's number, and a row of words, of which as many are filled as fit.
-use Prim.Native.Nat.{ℕ, suc}
+use Prim.Native.Nat.{ℕ, suc, _/_, _%_, _^_}
+use mathlib.Core.Bool.{Bool, cond}
 use mathlib.Core.List.{List, [], _∷_}
+use lib.Dec.{eqb, ltb}
 use lib.ListN.{set}
+use Rattle.clause.specs.Denote.{word}
+use Rattle.sheet.specs.declared.edition.Edition.{Edition}
+use Rattle.sheet.specs.declared.edition.Edition.the-variants.{Narrow, Wide}
 use Rattle.press_spec.specs.Press.{Answer, refused, accepted}
 use Rattle.replay_spec.specs.Replay as R
 
@@ -14,17 +19,56 @@ unfoldable pub pressCode : Answer → ℕ
 pressCode (refused why k) = why
 pressCode (accepted r) = 0
 
--- record, positive, negative, records, nodes, steps, peak, marked: on a refusal all but the first are 0, on acceptance the first is
+-- the words of a set
+unfoldable pub lowWord : ℕ → ℕ
+lowWord s = s % 2 ^ word
+
+unfoldable pub highWord : ℕ → ℕ
+highWord s = s / 2 ^ word
+
+-- record, positive, negative, records, nodes, steps, peak, marked, and the high words of the two sets: on a refusal all but the first are 0, on acceptance
+-- the first is
 unfoldable pub pressWords : Answer → List ℕ
-pressWords (refused why k) = k ∷ 0 ∷ 0 ∷ 0 ∷ 0 ∷ 0 ∷ 0 ∷ 0 ∷ []
+pressWords (refused why k) = k ∷ 0 ∷ 0 ∷ 0 ∷ 0 ∷ 0 ∷ 0 ∷ 0 ∷ 0 ∷ 0 ∷ []
 pressWords (accepted r) =
-    0 ∷ r .conclusion .positive ∷ r .conclusion .negative ∷ r .records ∷ r .nodes ∷ r .steps ∷ r .peak ∷ r .marked ∷ []
+    0
+    ∷ lowWord (r .conclusion .positive)
+    ∷ lowWord (r .conclusion .negative)
+    ∷ r .records
+    ∷ r .nodes
+    ∷ r .steps
+    ∷ r .peak
+    ∷ r .marked
+    ∷ highWord (r .conclusion .positive)
+    ∷ highWord (r .conclusion .negative)
+    ∷ []
 
 unfoldable pub replayCode : R.Answer → ℕ
 replayCode (R.refused why k) = why
 replayCode (R.accepted r) = 0
 
--- record, positive, negative, nodes, steps, peak: likewise
+-- record, positive, negative, nodes, steps, peak, and the high words of the two sets: likewise
 unfoldable pub replayWords : R.Answer → List ℕ
-replayWords (R.refused why k) = k ∷ 0 ∷ 0 ∷ 0 ∷ 0 ∷ 0 ∷ []
-replayWords (R.accepted r) = 0 ∷ r .conclusion .positive ∷ r .conclusion .negative ∷ r .nodes ∷ r .steps ∷ r .peak ∷ []
+replayWords (R.refused why k) = k ∷ 0 ∷ 0 ∷ 0 ∷ 0 ∷ 0 ∷ 0 ∷ 0 ∷ []
+replayWords (R.accepted r) =
+    0
+    ∷ lowWord (r .conclusion .positive)
+    ∷ lowWord (r .conclusion .negative)
+    ∷ r .nodes
+    ∷ r .steps
+    ∷ r .peak
+    ∷ highWord (r .conclusion .positive)
+    ∷ highWord (r .conclusion .negative)
+    ∷ []
+
+-- ---- the edition that a caller names by a number
+
+abbrev pub noEdition : ℕ
+noEdition = 255
+
+-- 0 and 1 name one, other numbers none
+unfoldable pub names : ℕ → Bool
+names n = ltb n 2
+
+unfoldable pub editionOf : ℕ → Edition
+editionOf n = cond (eqb n 0) Narrow Wide

@@ -5,9 +5,10 @@ ghost use Prim.Native.Nat.{_<_};
 ghost use lib.ListN.{set};
 ghost use Rattle.press.specs.Said.{said};
 ghost use Rattle.replay_answer.specs.Answers.{said as saidOfReplay};
-ghost use Rattle.c_report.specs.Report.{fill, pressCode, pressWords, replayCode, replayWords};
+ghost use Rattle.c_report.specs.Report.{fill, pressCode, pressWords, replayCode, replayWords, names, editionOf};
 use press::PressAnswer;
 use replay_answer::ReplayAnswer;
+use sheet::edition::Edition;
 
 // A word of the report, where there is room for it.
 fn put(report: &mut [u64], i: usize, word: u64)
@@ -18,15 +19,22 @@ fn put(report: &mut [u64], i: usize, word: u64)
     }
 }
 
+// Two words, one after the other.
+fn put_two(report: &mut [u64], i: usize, a: u64, b: u64)
+    requires { ⌜ i < 9 ⌝ }
+    ensures { λ _. ⌜ now (report .exit) ≡ fill i (a ∷ b ∷ []) (now (report .entry)) ⌝ }
+{
+    put(report, i, a);
+    put(report, i + 1, b);
+}
+
 // Four words, one after another.
 fn put_four(report: &mut [u64], i: usize, a: u64, b: u64, c: u64, d: u64)
     requires { ⌜ i < 5 ⌝ }
     ensures { λ _. ⌜ now (report .exit) ≡ fill i (a ∷ b ∷ c ∷ d ∷ []) (now (report .entry)) ⌝ }
 {
-    put(report, i, a);
-    put(report, i + 1, b);
-    put(report, i + 2, c);
-    put(report, i + 3, d);
+    put_two(report, i, a, b);
+    put_two(report, i + 2, c, d);
 }
 
 // What is said of a press.
@@ -39,7 +47,14 @@ pub fn tell_press(answer: PressAnswer, report: &mut [u64]) -> u32
             let conclusion = done.conclusion;
             let positive = conclusion.positive;
             let negative = conclusion.negative;
-            put_four(report, 0, 0, positive.0, negative.0, done.records as u64);
+            put_four(
+                report,
+                0,
+                0,
+                positive.low,
+                negative.low,
+                done.records as u64,
+            );
             put_four(
                 report,
                 4,
@@ -48,11 +63,13 @@ pub fn tell_press(answer: PressAnswer, report: &mut [u64]) -> u32
                 done.peak as u64,
                 done.marked as u64,
             );
+            put_two(report, 8, positive.high, negative.high);
             0
         }
         PressAnswer::Refused(why, k) => {
             put_four(report, 0, k.0 as u64, 0, 0, 0);
             put_four(report, 4, 0, 0, 0, 0);
+            put_two(report, 8, 0, 0);
             sheet::number_of(why)
         }
     }
@@ -68,16 +85,40 @@ pub fn tell_replay(answer: ReplayAnswer, report: &mut [u64]) -> u32
             let conclusion = done.conclusion;
             let positive = conclusion.positive;
             let negative = conclusion.negative;
-            put_four(report, 0, 0, positive.0, negative.0, done.nodes as u64);
-            put(report, 4, done.steps as u64);
-            put(report, 5, done.peak as u64);
+            put_four(report, 0, 0, positive.low, negative.low, done.nodes as u64);
+            put_four(
+                report,
+                4,
+                done.steps as u64,
+                done.peak as u64,
+                positive.high,
+                negative.high,
+            );
             0
         }
         ReplayAnswer::Refused(why, k) => {
             put_four(report, 0, k.0 as u64, 0, 0, 0);
-            put(report, 4, 0);
-            put(report, 5, 0);
+            put_four(report, 4, 0, 0, 0, 0);
             sheet::number_of(why)
         }
     }
+}
+
+// What is answered to a number that names no edition.
+pub const NO_EDITION: u32 = 255;
+
+pub fn names_edition(number: u32) -> bool
+    ensures { λ b. ⌜ b ≡ names number ⌝ }
+{
+    number < 2
+}
+
+// The edition that a number names; of those that name none it may be any.
+pub fn edition_of(number: u32) -> Edition
+    ensures { λ e. ⌜ e ≡ editionOf number ⌝ }
+{
+    if number == 0 {
+        return Edition::Narrow;
+    }
+    Edition::Wide
 }

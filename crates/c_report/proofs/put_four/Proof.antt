@@ -4,43 +4,21 @@ use borrow.Author.Needs.{needs}
 use Rattle.c_report.proofs.put_four.Statement.{statement}
 use Rattle.c_report.proofs.put_four.Tie as tie
 
-put-requires : tie.Need-put-requires
-put-requires c κs = search needs
+put-two-requires : tie.Need-put-two-requires
+put-two-requires c κs = search needs
 
-add-put : tie.Need-add-put
-add-put c = search needs
+add-put-two : tie.Need-add-put-two
+add-put-two c = search needs
 
-put-requires-2 : tie.Need-put-requires-2
-put-requires-2 c κs = search needs
-
-add-put-2 : tie.Need-add-put-2
-add-put-2 c = search needs
-
-put-requires-3 : tie.Need-put-requires-3
-put-requires-3 c κs = search needs
-
-add-put-3 : tie.Need-add-put-3
-add-put-3 c = search needs
-
-put-requires-4 : tie.Need-put-requires-4
-put-requires-4 c κs = search needs
+put-two-requires-2 : tie.Need-put-two-requires-2
+put-two-requires-2 c κs = search needs
 
 same-length : tie.Need-same-length
 same-length c = search needs
 
 returns : tie.Need-returns
-returns c = four-filled _ _ _ _ _ _ _ _ _ _ _ _ _ refl refl refl (c .before .before .before .before .before .before .before .before .before .before .before .before .before .before .put .ensures) (c .before .before .before .before .before .before .before .before .before .before .put2 .ensures) (c .before .before .before .before .before .before .put3 .ensures) (c .before .before .put4 .ensures)
+returns c = four-filled _ _ _ _ _ _ _ _ _ refl (c .before .before .before .before .before .before .put-two .ensures) (c .before .before .put-two2 .ensures)
 
 pub put-four-spec : {M : Type 1} → statement M
 put-four-spec =
-    tie.close
-    (tie.spec
-    put-requires
-    add-put
-    put-requires-2
-    add-put-2
-    put-requires-3
-    add-put-3
-    put-requires-4
-    same-length
-    returns)
+    tie.close (tie.spec put-two-requires add-put-two put-two-requires-2 same-length returns)

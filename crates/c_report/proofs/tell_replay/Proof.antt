@@ -1,3 +1,4 @@
+use native.Mathlib.Omega.{arith}
 use Rattle.c_report.proofs.Filled.{replay-accepted, replay-refused}
 use borrow.Author.Needs.{needs}
 use Rattle.c_report.proofs.tell_replay.Statement.{statement}
@@ -12,29 +13,23 @@ cast-put-four c = search needs
 put-four-requires : tie.Need-put-four-requires
 put-four-requires c κs = search needs
 
-cast-put : tie.Need-cast-put
-cast-put c = search needs
+cast-put-four-2 : tie.Need-cast-put-four-2
+cast-put-four-2 c = search needs
 
-put-requires : tie.Need-put-requires
-put-requires c κs = search needs
-
-cast-put-2 : tie.Need-cast-put-2
-cast-put-2 c = search needs
-
-put-requires-2 : tie.Need-put-requires-2
-put-requires-2 c κs = search needs
-
-enum-known-answer-2 : tie.Need-enum-known-answer-2
-enum-known-answer-2 c = search needs
+cast-put-four-3 : tie.Need-cast-put-four-3
+cast-put-four-3 c = search needs
 
 put-four-requires-2 : tie.Need-put-four-requires-2
 put-four-requires-2 c κs = search needs
 
-put-requires-3 : tie.Need-put-requires-3
-put-requires-3 c κs = search needs
+enum-known-answer-2 : tie.Need-enum-known-answer-2
+enum-known-answer-2 c = search needs
 
-put-requires-4 : tie.Need-put-requires-4
-put-requires-4 c κs = search needs
+put-four-requires-3 : tie.Need-put-four-requires-3
+put-four-requires-3 c κs = search needs
+
+put-four-requires-4 : tie.Need-put-four-requires-4
+put-four-requires-4 c κs = search needs
 
 number-of-requires : tie.Need-number-of-requires
 number-of-requires c κs = search needs
@@ -43,13 +38,13 @@ same-length : tie.Need-same-length
 same-length c = search needs
 
 returns : tie.Need-returns
-returns c = replay-accepted _ _ _ _ _ _ (c .before .before .before .before .before .before .before .before .before .before .before .before .before .before .before .before .before .before .before .answer .given .1) (c .before .before .before .before .before .before .before .before .before .before .before .before .put-four .ensures) (c .before .before .before .before .before .before .before .put .ensures) (c .before .before .put2 .ensures)
+returns c = replay-accepted _ _ _ _ _ (c .before .before .before .before .before .before .before .before .before .before .before .before .before .before .before .answer .given .1) ((omega arith, omega arith), (omega arith, omega arith)) (c .before .before .before .before .before .before .before .before .put-four .ensures) (c .before .before .put-four2 .ensures)
 
 same-length-2 : tie.Need-same-length-2
 same-length-2 c = search needs
 
 returns-2 : tie.Need-returns-2
-returns-2 c = replay-refused _ _ _ _ _ _ _ _ (c .before .before .before .before .before .before .before .before .before .before .before .before .before .before .answer2 .given .1) (c .number-of .ensures) (c .before .before .before .before .before .before .before .before .before .before .before .put-four2 .ensures) (c .before .before .before .before .before .before .before .put3 .ensures) (c .before .before .before .put4 .ensures)
+returns-2 c = replay-refused _ _ _ _ _ _ _ (c .before .before .before .before .before .before .before .before .before .before .answer2 .given .1) (c .number-of .ensures) (c .before .before .before .before .before .before .before .put-four3 .ensures) (c .before .before .before .put-four4 .ensures)
 
 pub tell-replay-spec : {M : Type 1} → statement M
 tell-replay-spec =
@@ -58,14 +53,12 @@ tell-replay-spec =
     enum-known-answer
     cast-put-four
     put-four-requires
-    cast-put
-    put-requires
-    cast-put-2
-    put-requires-2
-    enum-known-answer-2
+    cast-put-four-2
+    cast-put-four-3
     put-four-requires-2
-    put-requires-3
-    put-requires-4
+    enum-known-answer-2
+    put-four-requires-3
+    put-four-requires-4
     number-of-requires
     same-length
     returns
