@@ -2,51 +2,80 @@
 // Each program over it is one call, with a stream of its own. No contract can say what is read or printed: these functions are proved
 // safe and ending, and what they print is compared.
 //
-// A case is ten bytes, then its sheet and its rule table. Numbers are little-endian.
+// A case is fourteen bytes, then its sheet and its rule table. Numbers are little-endian.
 //
 //   byte 0   what is run: 0 the press, 1 the replay, 2 the replay, shown record by record
-//   byte 1   zero
+//   byte 1   the edition: 0 narrow, 1 wide
 //   2-3      bytes of the sheet, at most 49,176
-//   4-5      bytes of the rule table, at most 16,400
+//   4-5      bytes of the rule table, at most 32,800
 //   6-7      bytes of room for the press, at most 49,188; slots for the replay
 //   8-9      bytes of marks for the press, at most 1,084; zero for the replay
+//   10-11    bytes of the sheet that follow; the rest of it is zero
+//   12-13    bytes of the rule table that follow; the rest of it is zero
 //
 // Of a length beyond its limit the limit is taken. The stream ends where no whole case follows.
 
 mod press_case;
 mod replay_case;
 
-use sheet::limits::LINE_BYTES;
-use sheet::limits::RECORD_BYTES;
-use sheet::limits::REPLAY_RECORDS;
+use sheet::edition::Edition;
 use sheet::limits::TABLE_LINES;
+use sheet::narrow;
+use sheet::wide;
 use stdio::text;
 
-// The longest sheet and rule table of a case: a little more than the limits allow.
-const SHEET: usize = RECORD_BYTES * (REPLAY_RECORDS + 2);
+// The longest sheet and rule table of a case: a little more than the limits of either edition allow. A narrow sheet may be the longer one, a wide
+// rule table is.
+const SHEET: usize = narrow::RECORD_BYTES * (narrow::REPLAY_RECORDS + 2);
 
-const RULES: usize = LINE_BYTES * (TABLE_LINES + 1);
+const RULES: usize = wide::LINE_BYTES * (TABLE_LINES + 1);
+
+// The bytes before those of the sheet.
+const HEADER: usize = 14;
 
 struct Header {
     kind: u8,
+    edition: Edition,
     sheet: usize,
     rules: usize,
     room: usize,
     marks: usize,
+    sheet_follows: usize,
+    rules_follows: usize,
 }
 
-fn header_of(bytes: &[u8; 10]) -> Header {
+fn edition_of(byte: u8) -> Edition {
+    if byte == 0 {
+        Edition::Narrow
+    } else {
+        Edition::Wide
+    }
+}
+
+fn header_of(bytes: &[u8; HEADER]) -> Header {
     Header {
         kind: bytes[0],
+        edition: edition_of(bytes[1]),
         sheet: base::wide(base::u16_at(bytes, 2)),
         rules: base::wide(base::u16_at(bytes, 4)),
         room: base::wide(base::u16_at(bytes, 6)),
         marks: base::wide(base::u16_at(bytes, 8)),
+        sheet_follows: base::wide(base::u16_at(bytes, 10)),
+        rules_follows: base::wide(base::u16_at(bytes, 12)),
+    }
+}
+
+fn print_edition(edition: Edition) {
+    match edition {
+        Edition::Narrow => text::print(b" narrow"),
+        Edition::Wide => text::print(b" wide"),
     }
 }
 
 fn print_header(number: u64, head: Header) {
+    let edition = head.edition;
     text::print_number(b"case ", number);
+    print_edition(edition);
     if head.kind == 0 {
         text::print(b" press");
     } else {
@@ -60,22 +89,23 @@ fn print_header(number: u64, head: Header) {
 }
 
 fn run_inputs(head: Header, sheet: &[u8], rules: &[u8]) {
+    let edition = head.edition;
     if head.kind == 0 {
-        press_case::run(sheet, rules, head.room, head.marks);
+        press_case::run(edition, sheet, rules, head.room, head.marks);
         return;
     }
-    replay_case::run(sheet, rules, head.room);
+    replay_case::run(edition, sheet, rules, head.room);
     if head.kind == 2 {
-        replay_case::show(sheet, rules, head.room);
+        replay_case::show(edition, sheet, rules, head.room);
     }
 }
 
-// The sheet and the rule table are read into the first bytes of what is lent.
+// The sheet and the rule table are read into the first bytes of what is lent, which is zero.
 fn run_in(number: u64, head: Header, sheet: &mut [u8], rules: &mut [u8]) -> bool {
-    if !stdio::is_read(sheet, head.sheet) {
+    if !stdio::is_read(sheet, head.sheet_follows) {
         return false;
     }
-    if !stdio::is_read(rules, head.rules) {
+    if !stdio::is_read(rules, head.rules_follows) {
         return false;
     }
     print_header(number, head);
@@ -93,8 +123,8 @@ fn run_case(number: u64, head: Header) -> bool {
 
 // Whether there was a case.
 fn run_next(number: u64) -> bool {
-    let mut bytes = [0u8; 10];
-    if !stdio::is_read(&mut bytes, 10) {
+    let mut bytes = [0u8; HEADER];
+    if !stdio::is_read(&mut bytes, HEADER) {
         return false;
     }
     run_case(number, header_of(&bytes))

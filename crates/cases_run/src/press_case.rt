@@ -2,12 +2,13 @@
 // all of them, are as they were.
 use press::PressAnswer;
 use press_write::Pressed;
-use sheet::limits::PRESSED_RECORDS;
-use sheet::limits::RECORD_BYTES;
+use sheet::edition::Edition;
 use sheet::limits::TABLE_LINES;
+use sheet::narrow::PRESSED_RECORDS;
+use sheet::narrow::RECORD_BYTES;
 use stdio::text;
 
-// The most room and marks of a case: a little more than a press needs.
+// The most room and marks of a case: a little more than a press needs. A narrow one needs the most.
 const ROOM: usize = RECORD_BYTES * PRESSED_RECORDS + 60;
 
 const MARKS: usize = TABLE_LINES + 60;
@@ -35,8 +36,8 @@ fn print_beyond(out: &[u8], marks: &[u8]) {
     }
 }
 
-fn print_pressed(p: Pressed) {
-    text::print_ok(p.conclusion);
+fn print_pressed(edition: Edition, p: Pressed) {
+    text::print_ok(edition, p.conclusion);
     text::print_count(b" records ", p.records);
     text::print_count(b" nodes ", p.nodes);
     text::print_count(b" steps ", p.steps);
@@ -44,8 +45,9 @@ fn print_pressed(p: Pressed) {
     text::print_count(b" marked ", p.marked);
 }
 
-fn print_memory(records: u16, lines: usize, out: &[u8], marks: &[u8]) {
-    let n = stdio::least(sheet::limits::RECORD_BYTES * base::wide(records), out.len());
+fn print_memory(edition: Edition, records: u16, lines: usize, out: &[u8], marks: &[u8]) {
+    let bytes = edition.record_bytes() * base::wide(records);
+    let n = stdio::least(bytes, out.len());
     let m = stdio::least(lines, marks.len());
     text::print(b"\nout ");
     text::print_bytes(&out[..n]);
@@ -54,11 +56,11 @@ fn print_memory(records: u16, lines: usize, out: &[u8], marks: &[u8]) {
     print_beyond(&out[n..], &marks[m..]);
 }
 
-fn print_outcome(answer: PressAnswer, lines: usize, out: &[u8], marks: &[u8]) {
+fn print_outcome(edition: Edition, answer: PressAnswer, lines: usize, out: &[u8], marks: &[u8]) {
     match answer {
         PressAnswer::Accepted(p) => {
-            print_pressed(p);
-            print_memory(p.records, lines, out, marks);
+            print_pressed(edition, p);
+            print_memory(edition, p.records, lines, out, marks);
         }
         PressAnswer::Refused(why, k) => {
             text::print_refused(b"= refused ", why, k);
@@ -68,16 +70,24 @@ fn print_outcome(answer: PressAnswer, lines: usize, out: &[u8], marks: &[u8]) {
 }
 
 // Of what is lent, the first bytes are the room and the marks.
-fn run_in(sheet: &[u8], rules: &[u8], room: usize, marks: usize, out: &mut [u8], core: &mut [u8]) {
+fn run_in(
+    edition: Edition,
+    sheet: &[u8],
+    rules: &[u8],
+    room: usize,
+    marks: usize,
+    out: &mut [u8],
+    core: &mut [u8],
+) {
     let n = stdio::least(room, out.len());
     let m = stdio::least(marks, core.len());
-    let answer = press::press(sheet, rules, &mut out[..n], &mut core[..m]);
-    let lines = rules.len() / sheet::limits::LINE_BYTES;
-    print_outcome(answer, lines, out, core);
+    let answer = press::press(edition, sheet, rules, &mut out[..n], &mut core[..m]);
+    let lines = edition.lines_in(rules.len());
+    print_outcome(edition, answer, lines, out, core);
 }
 
-pub(crate) fn run(sheet: &[u8], rules: &[u8], room: usize, marks: usize) {
+pub(crate) fn run(edition: Edition, sheet: &[u8], rules: &[u8], room: usize, marks: usize) {
     let mut out = [OLD; ROOM];
     let mut core = [OLD; MARKS];
-    run_in(sheet, rules, room, marks, &mut out, &mut core);
+    run_in(edition, sheet, rules, room, marks, &mut out, &mut core);
 }

@@ -1,4 +1,4 @@
-// The text of an answer: words, decimal numbers, sets of 16 hex digits, bytes as hex.
+// The text of an answer: words, decimal numbers, sets as 16 hex digits, or 32 of a wide sheet, bytes as hex.
 ghost use Prim.Native.Nat.{_≤_, _*_};
 ghost use lib.ListN.{length};
 use clause::Clause;
@@ -6,9 +6,10 @@ use clause::Set;
 use libc::STDOUT_FILENO;
 use sheet::Reason;
 use sheet::RecordNo;
+use sheet::edition::Edition;
 
-// A set's word as hex.
-const SET_DIGITS: usize = 16;
+// A word as hex.
+const WORD_DIGITS: usize = 16;
 
 // Bytes are printed so many at a time, each as two digits.
 const PART: usize = 2000;
@@ -28,17 +29,26 @@ pub fn print_count(words: &[u8], n: u16) {
     print_number(words, n as u64);
 }
 
-pub fn print_set(words: &[u8], s: Set) {
-    let mut digits = [0u8; SET_DIGITS];
-    let k = io::hex(s.0, SET_DIGITS, &mut digits);
-    print(words);
+fn print_word(word: u64) {
+    let mut digits = [0u8; WORD_DIGITS];
+    let k = io::hex(word, WORD_DIGITS, &mut digits);
     print(&digits[..k]);
 }
 
+// A narrow set is the low word; of a wide one the high word comes first.
+pub fn print_set(words: &[u8], edition: Edition, s: Set) {
+    print(words);
+    match edition {
+        Edition::Narrow => {}
+        Edition::Wide => print_word(s.high),
+    }
+    print_word(s.low);
+}
+
 // "= ok <positive> <negative>", with which each accepted answer begins.
-pub fn print_ok(c: Clause) {
-    print_set(b"= ok ", c.positive);
-    print_set(b" ", c.negative);
+pub fn print_ok(edition: Edition, c: Clause) {
+    print_set(b"= ok ", edition, c.positive);
+    print_set(b" ", edition, c.negative);
 }
 
 // The words, the number of the reason and the record.

@@ -1,15 +1,29 @@
 use mathlib.Core.Path.{sym}
+use Prim.Native.Nat.{ℕ, _*_, _^_, _<_}
 use native.Mathlib.Omega.{arith}
 use lib.Seq.{length-take-le}
 use borrow.Author.Needs.{needs}
+use Rattle.sheet.specs.declared.edition.Edition.{Edition}
+use Rattle.sheet.specs.declared.edition.Edition.the-variants.{Narrow, Wide}
+use Rattle.sheet.specs.Editions.{recordBytes}
 use Rattle.cases_run.proofs.press_case.print_memory.Statement.{statement}
 use Rattle.cases_run.proofs.press_case.print_memory.Tie as tie
+
+-- no count of 16 bits is of too many bytes
+counted-fit : (e : Edition) (k : ℕ) → k < 2 ^ 16 → recordBytes e * k < 2 ^ 64
+counted-fit Narrow k h = omega arith
+counted-fit Wide k h = omega arith
+
+record-bytes-requires : tie.Need-record-bytes-requires
+record-bytes-requires c κs = search needs
 
 wide-requires : tie.Need-wide-requires
 wide-requires c κs = search needs
 
-mul-least : tie.Need-mul-least
-mul-least c = search needs
+mul-bytes : tie.Need-mul-bytes
+mul-bytes c =
+    rw (c .before .record-bytes .ensures)
+    (omega (arith, counted-fit (c .before .before .before .before .args .edition) (c .wide .result) (omega arith)))
 
 least-requires : tie.Need-least-requires
 least-requires c κs = search needs
@@ -69,8 +83,9 @@ pub print-memory-spec : {M : Type 1} → statement M
 print-memory-spec =
     tie.close
     (tie.spec
+    record-bytes-requires
     wide-requires
-    mul-least
+    mul-bytes
     least-requires
     least-requires-2
     slice-aggregate-print

@@ -26,6 +26,9 @@ slice-aggregate-press-2 c = sym (length-take-le _ _ (omega arith))
 press-requires : tie.Need-press-requires
 press-requires c κs = search needs
 
+lines-in-requires : tie.Need-lines-in-requires
+lines-in-requires c κs = search needs
+
 print-outcome-requires : tie.Need-print-outcome-requires
 print-outcome-requires c κs = search needs
 
@@ -49,6 +52,7 @@ run-in-spec =
     slice-relend-prefix-press-2
     slice-aggregate-press-2
     press-requires
+    lines-in-requires
     print-outcome-requires
     same-length
     same-length-2

@@ -4,10 +4,10 @@ use Rattle.cases_run.proofs.replay_case.print_slots.Statement.{statemen
 use Rattle.cases_run.proofs.replay_case.print_slots.Tie as tie
 
 abbrev Inv-loop : tie.InvT-loop
-Inv-loop sheet rules slots records i₀ i = i ≤ slots
+Inv-loop edition sheet rules slots records i₀ i = i ≤ slots
 
 abbrev μ-loop : tie.MeasureT-loop
-μ-loop sheet rules slots records i₀ i = slots - i
+μ-loop edition sheet rules slots records i₀ i = slots - i
 
 loop-holds : tie.Need-loop-holds Inv-loop μ-loop
 loop-holds c = search needs

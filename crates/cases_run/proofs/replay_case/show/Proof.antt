@@ -4,10 +4,13 @@ use Rattle.cases_run.proofs.replay_case.show.Statement.{statement}
 use Rattle.cases_run.proofs.replay_case.show.Tie as tie
 
 abbrev Inv-loop : tie.InvT-loop
-Inv-loop sheet rules slots whole k₀ k = k ≤ whole
+Inv-loop edition sheet rules slots most whole k₀ k = k ≤ whole
 
 abbrev μ-loop : tie.MeasureT-loop
-μ-loop sheet rules slots whole k₀ k = whole - k
+μ-loop edition sheet rules slots most whole k₀ k = whole - k
+
+replay-records-requires : tie.Need-replay-records-requires Inv-loop μ-loop
+replay-records-requires c κs = search needs
 
 check-lengths-requires : tie.Need-check-lengths-requires Inv-loop μ-loop
 check-lengths-requires c κs = search needs
@@ -20,6 +23,9 @@ enum-told-2 c = search needs
 
 returns : tie.Need-returns Inv-loop μ-loop
 returns c = search needs
+
+records-in-requires : tie.Need-records-in-requires Inv-loop μ-loop
+records-in-requires c κs = search needs
 
 loop-holds : tie.Need-loop-holds Inv-loop μ-loop
 loop-holds c = search needs
@@ -48,10 +54,12 @@ show-spec =
     (tie.spec
     Inv-loop
     μ-loop
+    replay-records-requires
     check-lengths-requires
     enum-told
     enum-told-2
     returns
+    records-in-requires
     loop-holds
     add-k
     print-record-requires
