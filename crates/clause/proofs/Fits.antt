@@ -1,4 +1,4 @@
--- Words that are words are told by the number that they are.
+-- Sets and clauses whose words the machine can hold are equal where the numbers that they stand for are.
 use mathlib.Core.Path.{_≡_, sym, ap, ap₂, _∙_}
 use Prim.Native.Nat.{ℕ, _/_, _%_, _^_}
 use lib.Pow.{high, low}

@@ -11,7 +11,7 @@ use Rattle.sheet.specs.Refusals.{Lent, LentRefused, LentFine, Place, RecordRefu
 use Rattle.press_spec.specs.Judge.{Sizes}
 use Rattle.press_spec.specs.Press.{Call, sizesOf, refused, press}
 
--- room for output under 48N-24 bytes (N input records), or marks shorter than the number of rule lines
+-- room for output under 48N-24 bytes (wide: 80N-40; N input records), or marks shorter than the number of rule lines
 abbrev pub Tight : Edition → Sizes → Type 0
 Tight e z = (z .out < recordBytes e * (2 * (z .sheet / recordBytes e) - 1)) ⊎ (z .marks < z .rules / lineBytes e)
 

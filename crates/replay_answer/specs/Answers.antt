@@ -18,7 +18,7 @@ unfoldable pub said : ReplayAnswer → Answer
 said (A.Accepted r) = accepted (resultOf r)
 said (A.Refused why k) = refused (numberOf why) (k .0)
 
--- words that are words
+-- each word of it is one that the machine can hold
 abbrev pub AnswerFits : ReplayAnswer → Type 0
 AnswerFits (A.Accepted r) = ClauseFits (r .conclusion)
 AnswerFits (A.Refused why k) = Unit {0}

@@ -32,6 +32,6 @@ lookAt at a = look (a .answer) (a .state .tally) (getD (a .state .slots) at empt
 abbrev pub lookOf : CodeLook → Look
 lookOf l = look (saidOfStep (l .answer)) (tallyOf (l .tally)) (slotOf (l .slot))
 
--- words that are words
+-- each word of it is one that the machine can hold
 abbrev pub LookFits : CodeLook → Type 0
 LookFits l = SlotFits (l .slot)

@@ -23,7 +23,7 @@ slotOf s = slot (s .used) (s .node) (literalsOf (s .clause))
 unfoldable pub rowOf : List CodeSlot → List Slot
 rowOf slots = map slotOf slots
 
--- words that are words, in a slot and in a row of slots
+-- each word of a slot, and of a row of slots, is one that the machine can hold
 abbrev pub SlotFits : CodeSlot → Type 0
 SlotFits s = ClauseFits (s .clause)
 

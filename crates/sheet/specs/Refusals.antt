@@ -38,13 +38,13 @@ pub record Lent : Type 1 where
   pub Small : Type 0
 
 abbrev pub LengthApplies : Lent → Reason → Type 0
--- sheet length isn't a multiple of 24
+-- sheet length isn't a multiple of 24 (wide: 40)
 LengthApplies z Ragged = z .sheet % recordBytes (z .edition) ≡ 0 → ⊥
 -- sheet is empty
 LengthApplies z Empty = z .sheet ≡ 0
 -- over so many records
 LengthApplies z Long = z .most < z .sheet / recordBytes (z .edition)
--- rule table isn't a multiple of 16, or over 1,024 lines
+-- rule table isn't a multiple of 16 (wide: 32), or over 1,024 lines
 LengthApplies z Table = (z .rules % lineBytes (z .edition) ≡ 0 → ⊥) ⊎ (tableLines (z .edition) < z .rules / lineBytes (z .edition))
 -- room for output too small, or marks shorter than the number of rule lines
 LengthApplies z Room = z .Small
@@ -104,7 +104,7 @@ abbrev pub Applies : Place → Fields → Reason → Type 0
 Applies p f Kind = (f .kind ≡ 1 → ⊥) × (f .kind ≡ 2 → ⊥) × (p .drops ≡ true → f .kind ≡ 3 → ⊥)
 -- a byte that must be zero isn't
 Applies p f NotZero = Zeros f → ⊥
--- pivot over 63
+-- pivot over 63 (wide: 127)
 Applies p f Pivot = (f .kind ≡ 2) × (variables (p .edition) ≤ f .pivot)
 -- named node isn't earlier
 Applies p f NotEarlier = (n : ℕ) × Names f n × (length (nodesOf (p .before)) ≤ n)

@@ -1,4 +1,4 @@
-// The numbers of the wide edition: of the same name, for the same things.
+// The numbers of the wide edition, by the names that the narrow one has for its own.
 use crate::limits::POSITIVE_AT;
 use crate::limits::WORD_BYTES;
 
@@ -15,9 +15,6 @@ pub const RECORD_BYTES: usize = POSITIVE_AT + 2 * SET_BYTES;
 
 // The most records that the press takes.
 pub const PRESS_RECORDS: usize = 512;
-
-// The most records of a pressed sheet: of n nodes there are n - 1 drops.
-pub const PRESSED_RECORDS: usize = 2 * PRESS_RECORDS - 1;
 
 // The most records that the replay takes.
 pub const REPLAY_RECORDS: usize = 1023;
