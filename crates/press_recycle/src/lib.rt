@@ -14,13 +14,11 @@ ghost use Rattle.press_nodes.specs.Fates.{cutIn, fatesIn};
 ghost use Rattle.press_recycle.specs.Passes.{countIn, reachesIn, Fated};
 use crate::reach::Reach;
 use clause::Clause;
-use press_nodes::clause_table;
 use press_nodes::fate;
 use press_nodes::fate::Cut;
 use press_nodes::link;
 use press_nodes::link::Link;
 use sheet::NodeNo;
-use sheet::limits::CLAUSE_WORDS;
 
 mod reach;
 
@@ -130,7 +128,8 @@ fn recycle_turn(links: &[u64], uses: &[u16], n: NodeNo, fates: &mut [u8], sets: 
     hand_on(uses, cut, pivot, left, right, s, fates, sets);
 }
 
-fn recycle_with(links: &[u64], own: Clause, uses: &[u16], fates: &mut [u8], sets: &mut [u64])
+// What becomes of each node, where `own` is the sink's clause. The sets S stand in `sets`, and what it held before never matters.
+pub fn recycle(links: &[u64], own: Clause, uses: &[u16], fates: &mut [u8], sets: &mut [u64])
     requires { ⌜ Links (now links) ⌝ }
     requires { ⌜ (length (now uses) ≡ length (now links)) × (length (now fates) ≡ length (now links)) × (length (now sets) ≡ clauseWords (length (now links))) × (0 < length (now links)) ⌝ }
     ensures { λ _. ⌜ (let t = linksIn (now (links .entry)) in fatesIn (now (fates .exit)) ≡ recycling.fates t (recycle (reset (countIn (now (uses .entry)))) (literalsOf own) t (sink t))) ⌝ }
@@ -143,15 +142,4 @@ fn recycle_with(links: &[u64], own: Clause, uses: &[u16], fates: &mut [u8], sets
         i -= 1;
         recycle_turn(links, uses, NodeNo(i), fates, sets);
     }
-}
-
-// What becomes of each node, where `own` is the sink's clause.
-pub fn recycle(links: &[u64], own: Clause, uses: &[u16], fates: &mut [u8])
-    requires { ⌜ Links (now links) ⌝ }
-    requires { ⌜ (length (now uses) ≡ length (now links)) × (length (now fates) ≡ length (now links)) × (0 < length (now links)) ⌝ }
-    ensures { λ _. ⌜ (let t = linksIn (now (links .entry)) in fatesIn (now (fates .exit)) ≡ recycling.fates t (recycle (reset (countIn (now (uses .entry)))) (literalsOf own) t (sink t))) ⌝ }
-{
-    let words = clause_table::words_for(links.len());
-    let mut sets = [0u64; CLAUSE_WORDS];
-    recycle_with(links, own, uses, fates, &mut sets[..words]);
 }
