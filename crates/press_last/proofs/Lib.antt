@@ -1,5 +1,3 @@
 pub mod LastUses
 pub mod Joined
 pub mod Noting
-pub mod Peaks
-pub mod Peaking

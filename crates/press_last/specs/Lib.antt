@@ -1,2 +1,1 @@
 pub mod LastUses
-pub mod Peaks

@@ -11,8 +11,6 @@ use press_nodes::link;
 use press_nodes::link::Link;
 use sheet::NodeNo;
 
-pub mod peak;
-
 // Node i names n: that is its last use, unless one is noted already, since the walk comes from the end.
 fn note_use(i: NodeNo, n: NodeNo, last: &mut [u16])
     requires { ⌜ (n .0 < length (now last)) × (i .0 < capacity) ⌝ }

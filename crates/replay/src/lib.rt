@@ -11,7 +11,6 @@ use sheet::Verdict;
 use sheet::edition::Edition;
 
 pub mod own;
-mod run;
 
 // 1 to 4, of the lengths alone, with the most records that the replay takes.
 fn check_lengths(edition: Edition, sheet: usize, rules: usize) -> Verdict
@@ -32,7 +31,7 @@ pub fn replay(
     let verdict = check_lengths(edition, sheet.len(), rules.len());
     if replay_answer::passes(verdict) {
         replay_row::clear(slots);
-        let ran = run::run(edition, sheet, rules, slots);
+        let ran = replay_run::run(edition, sheet, rules, slots);
         replay_row::clear(slots);
         return ran.answer;
     }

@@ -71,7 +71,7 @@ use Rattle.replay_answer.proofs.ReplayAnswer as B
 use Rattle.replay_answer.proofs.ReplayAnswer.Laws as B′
 use Rattle.replay_step.proofs.Values.{edition-val, answer-val, verdict-val}
 use Rattle.replay_row.proofs.Prims.{Clear, call-clear}
-use Rattle.replay.proofs.Answers.{Nothing, Nowhere, End, Passes, call-nothing, call-nowhere, call-end, call-passes}
+use Rattle.replay_run.proofs.Answers.{Nothing, Nowhere, End, Passes, call-nothing, call-nowhere, call-end, call-passes}
 use Rattle.tally.specs.Said.{tallyOf}
 use Rattle.tally.proofs.Tally as Y
 use Rattle.tally.proofs.Tally.Laws as Y′
@@ -97,13 +97,13 @@ use Rattle.replay_answer.proofs.passes.Met as passes-thm
 use Rattle.replay_row.proofs.clear.Symbol as clear-def
 use Rattle.replay_row.proofs.clear.Symbol.{name as #clear}
 use Rattle.replay_row.proofs.clear.Met as clear-thm
-use Rattle.replay.proofs.Stopping.{ran-val}
-use Rattle.replay.proofs.run.Ran as Q
-use Rattle.replay.proofs.run.Ran.Laws as Q′
-use Rattle.replay.proofs.run.run as run′
-use Rattle.replay.proofs.run.run.Symbol as run-def
-use Rattle.replay.proofs.run.run.Symbol.{name as #run}
-use Rattle.replay.proofs.run.run.Met as run-thm
+use Rattle.replay_run.proofs.Stopping.{ran-val}
+use Rattle.replay_run.proofs.Ran as Q
+use Rattle.replay_run.proofs.Ran.Laws as Q′
+use Rattle.replay_run.proofs.run as run′
+use Rattle.replay_run.proofs.run.Symbol as run-def
+use Rattle.replay_run.proofs.run.Symbol.{name as #run}
+use Rattle.replay_run.proofs.run.Met as run-thm
 use Rattle.replay.proofs.replay.Key.{name as #key}
 use Rattle.replay.proofs.replay as f
 use Rattle.replay.proofs.replay.Statement as stated
@@ -241,7 +241,7 @@ replay-spec 𝓤 H 𝓜 𝓖 𝓡 =
       lengths = cited 𝓤 H (Lengths 𝓤 H (𝓖 .A) (𝓜 .mem) (𝓡 .run)) 𝓜 𝓡 code.env #lengths lengths-def.routine code.calls-replay·check-lengths (lengths-thm.met 𝓤 H 𝓜 𝓖 𝓡);
       passes = cited 𝓤 H (Passes 𝓤 H (𝓖 .A) (𝓜 .mem) (𝓡 .run)) 𝓜 𝓡 code.env #passes passes-def.routine code.calls-replay-answer·passes (passes-thm.met 𝓤 H 𝓜 𝓖 𝓡);
       clear = cited 𝓤 H (Clear 𝓤 H (𝓖 .A) (𝓜 .mem) (𝓡 .run)) 𝓜 𝓡 code.env #clear clear-def.routine code.calls-replay-row·clear (clear-thm.met 𝓤 H 𝓜 𝓖 𝓡);
-      runs-it = cited 𝓤 H (Run 𝓤 H (𝓖 .A) (𝓜 .mem) (𝓡 .run)) 𝓜 𝓡 code.env #run run-def.routine code.calls-replay·run·run (run-thm.met 𝓤 H 𝓜 𝓖 𝓡);
+      runs-it = cited 𝓤 H (Run 𝓤 H (𝓖 .A) (𝓜 .mem) (𝓡 .run)) 𝓜 𝓡 code.env #run run-def.routine code.calls-replay-run·run (run-thm.met 𝓤 H 𝓜 𝓖 𝓡);
       nothing = cited 𝓤 H (Nothing 𝓤 H (𝓖 .A) (𝓜 .mem) (𝓡 .run)) 𝓜 𝓡 code.env #nothing nothing-def.routine code.calls-tally·nothing (nothing-thm.met 𝓤 H 𝓜 𝓖 𝓡);
       nowhere = cited 𝓤 H (Nowhere 𝓤 H (𝓖 .A) (𝓜 .mem) (𝓡 .run)) 𝓜 𝓡 code.env #nowhere nowhere-def.routine code.calls-replay-slots·nowhere (nowhere-thm.met 𝓤 H 𝓜 𝓖 𝓡);
       end = cited 𝓤 H (End 𝓤 H (𝓖 .A) (𝓜 .mem) (𝓡 .run)) 𝓜 𝓡 code.env #end end-def.routine code.calls-replay-answer·end (end-thm.met 𝓤 H 𝓜 𝓖 𝓡);

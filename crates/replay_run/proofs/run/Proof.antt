@@ -1,4 +1,4 @@
--- `replay::run` meets its contract: a walk of its MIR, by hand. The row is opened before the loop and closed after it; the local tally is lent to each step beside it, with a part of the sheet. With k records passed, what is left of the run from the row and the tally then is the run.
+-- `replay_run::run` meets its contract: a walk of its MIR, by hand. The row is opened before the loop and closed after it; the local tally is lent to each step beside it, with a part of the sheet. With k records passed, what is left of the run from the row and the tally then is the run.
 -- Assumes nothing.
 use mathlib.Core.Path.{_≡_, refl, sym, ap, _∙_}
 use Prim.Native.Nat.{ℕ, _^_, _<_, _≤_, _+_, _-_, _*_, _/_, zero-le}
@@ -110,17 +110,17 @@ use Rattle.replay_step.proofs.Going.{number-fits, Goes, goes-none, goes-all, ne
 use Rattle.replay_step.proofs.take.Symbol as take-def
 use Rattle.replay_step.proofs.take.Symbol.{name as #take}
 use Rattle.replay_step.proofs.take.Met as take-thm
-use Rattle.replay.proofs.Editions.{a-record-fits, Bytes, call-bytes}
-use Rattle.replay.proofs.Answers.{Nothing, Nowhere, Passes, Last-sought, End, call-nothing, call-nowhere, call-passes, call-last, call-end}
-use Rattle.replay.specs.declared.run.Ran.{Ran}
-use Rattle.replay.proofs.run.Ran as Q
-use Rattle.replay.proofs.run.Ran.Laws as Q′
-use Rattle.replay.proofs.Stopping.{ran-val, stop-at, stop-is}
-use Rattle.replay.proofs.run.run.Key.{name as #key}
-use Rattle.replay.proofs.run.run as f
-use Rattle.replay.proofs.run.run.Statement as stated
-use Rattle.replay.proofs.run.run.Code as code
-use Rattle.replay.proofs.run.run.Code.Mir as m
+use Rattle.replay_run.proofs.Editions.{a-record-fits, Bytes, call-bytes}
+use Rattle.replay_run.proofs.Answers.{Nothing, Nowhere, Passes, Last-sought, End, call-nothing, call-nowhere, call-passes, call-last, call-end}
+use Rattle.replay_run.specs.declared.Ran.{Ran}
+use Rattle.replay_run.proofs.Ran as Q
+use Rattle.replay_run.proofs.Ran.Laws as Q′
+use Rattle.replay_run.proofs.Stopping.{ran-val, stop-at, stop-is}
+use Rattle.replay_run.proofs.run.Key.{name as #key}
+use Rattle.replay_run.proofs.run as f
+use Rattle.replay_run.proofs.run.Statement as stated
+use Rattle.replay_run.proofs.run.Code as code
+use Rattle.replay_run.proofs.run.Code.Mir as m
 
 -- nothing is asked back of what is shared
 abbrev stayed : Stays (f.ended .signature .params) (f.ended .kept)

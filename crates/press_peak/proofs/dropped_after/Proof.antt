@@ -1,11 +1,11 @@
 use native.Mathlib.Omega.{arith}
 use Rattle.press_nodes.specs.Tables.{linksIn}
 use Rattle.press_nodes.proofs.Found.{found-leaf}
 use Rattle.press_last.proofs.Joined.{Joined, joined-inside, found-joined}
-use Rattle.press_last.proofs.Peaking.{drop-most, dropped-leaf, dropped-same, dropped-two}
+use Rattle.press_peak.proofs.Peaking.{drop-most, dropped-leaf, dropped-same, dropped-two}
 use borrow.Author.Needs.{needs}
-use Rattle.press_last.proofs.peak.dropped_after.Statement.{statement}
-use Rattle.press_last.proofs.peak.dropped_after.Tie as tie
+use Rattle.press_peak.proofs.dropped_after.Statement.{statement}
+use Rattle.press_peak.proofs.dropped_after.Tie as tie
 
 -- ---- what is known where the node is a step
 

@@ -24,7 +24,7 @@ pub struct Ran {
     pub tally: Tally,
 }
 
-pub(crate) fn run(edition: Edition, sheet: &[u8], rules: &[u8], slots: &mut [Slot]) -> Ran
+pub fn run(edition: Edition, sheet: &[u8], rules: &[u8], slots: &mut [Slot]) -> Ran
     requires { ⌜ checkLengths edition (replayRecords edition) (length (now sheet)) (length (now rules)) ≡ Fine ⌝ }
     ensures { λ r. ⌜ ran (said (r .answer)) (state (tallyOf (r .tally)) (rowOf (now (slots .exit)))) ≡ ranThrough edition (now (rules .entry)) (now (sheet .entry)) (length (now (sheet .entry)) / recordBytes edition) 0 (state nothing (rowOf (now (slots .entry)))) ⌝ }
 {

@@ -8,9 +8,9 @@ use Rattle.tally.proofs.Tally as Y
 use Rattle.replay_answer.specs.declared.ReplayAnswer.{ReplayAnswer}
 use Rattle.replay_answer.proofs.ReplayAnswer as B
 use Rattle.replay_step.proofs.Values.{tally-val, answer-val}
-use Rattle.replay.specs.declared.run.Ran.{Ran}
-use Rattle.replay.proofs.run.Ran as Q
-use Rattle.replay.proofs.run.Ran.Laws as Q′
+use Rattle.replay_run.specs.declared.Ran.{Ran}
+use Rattle.replay_run.proofs.Ran as Q
+use Rattle.replay_run.proofs.Ran.Laws as Q′
 
 abbrev pub ran-val : Ran → Val
 ran-val = LL.val Q.the-type Q′.the-laws

@@ -12,9 +12,9 @@ use Rattle.sheet.specs.Records.{Record}
 use Rattle.press_spec.specs.Links.{Link, leaf, linkAt}
 use Rattle.press_spec.specs.Drops.{dropsAfter}
 use Rattle.press_spec.proofs.Nodes.{links-from}
 use Rattle.press_last.specs.LastUses.{usedAfter, dropBy}
-use Rattle.press_last.specs.Peaks.{peakOfLinks}
+use Rattle.press_peak.specs.Peaks.{peakOfLinks}
 use Rattle.press_last.proofs.Joined.{Joined, drops-same, drops-two}
 
 -- ---- one parent
 

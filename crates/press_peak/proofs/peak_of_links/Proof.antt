@@ -3,8 +3,8 @@ use lib.ListN.{length}
 use Rattle.sheet.specs.Editions.{capacity}
 use Rattle.press_nodes.proofs.Lent.{lent-long}
 use borrow.Author.Needs.{needs}
-use Rattle.press_last.proofs.peak.peak_of_links.Statement.{statement}
-use Rattle.press_last.proofs.peak.peak_of_links.Tie as tie
+use Rattle.press_peak.proofs.peak_of_links.Statement.{statement}
+use Rattle.press_peak.proofs.peak_of_links.Tie as tie
 
 array-borrow-prefix-last : tie.Need-array-borrow-prefix-last
 array-borrow-prefix-last c = search needs

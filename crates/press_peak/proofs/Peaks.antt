@@ -9,7 +9,7 @@ use Rattle.sheet.specs.Counts.{nodesOf, peakFrom}
 use Rattle.press_spec.specs.Links.{link, links}
 use Rattle.press_spec.specs.Drops.{dropsAfter, withDrops}
 use Rattle.press_spec.proofs.Drops.{nodes-after}
-use Rattle.press_last.specs.Peaks.{peakOfLinks}
+use Rattle.press_peak.specs.Peaks.{peakOfLinks}
 
 -- ---- drops do not raise a peak
 

@@ -5,8 +5,8 @@ ghost use lib.ListN.{length, drop as after};
 ghost use Rattle.press_spec.specs.Links.{linkAt};
 ghost use Rattle.press_spec.specs.Drops.{dropsAfter};
 ghost use Rattle.press_nodes.specs.Tables.{linksIn, Links};
 ghost use Rattle.press_last.specs.LastUses.{lastUses, dropBy};
-ghost use Rattle.press_last.specs.Peaks.{peakOfLinks};
+ghost use Rattle.press_peak.specs.Peaks.{peakOfLinks};
 use press_nodes::link;
 use press_nodes::link::Link;
 use sheet::NodeNo;
@@ -17,7 +17,7 @@ fn drop_count(last: &[u16], k: NodeNo, n: NodeNo) -> u16
     requires { ⌜ n .0 < length (now last) ⌝ }
     ensures { λ r. ⌜ r ≡ length (dropBy (now (last .entry)) (k .0) (n .0)) ⌝ }
 {
-    if crate::used_after(last, k, n) {
+    if press_last::used_after(last, k, n) {
         return 0;
     }
     1
@@ -52,7 +52,7 @@ fn peak_with(links: &[u64], last: &mut [u16]) -> u16
     requires { ⌜ length (now last) ≡ length (now links) ⌝ }
     ensures { λ r. ⌜ r ≡ peakOfLinks 0 (linksIn (now (links .entry))) ⌝ }
 {
-    crate::last_uses(links, last);
+    press_last::last_uses(links, last);
     let mut held: u16 = 0;
     let mut peak: u16 = 0;
     let mut k = 0;

@@ -5,11 +5,11 @@ use lib.ListN.{length}
 use lib.ListN.{drop as after}
 use Rattle.press_nodes.specs.Tables.{linksIn}
 use Rattle.press_nodes.proofs.Tables.{links-length}
-use Rattle.press_last.specs.Peaks.{peakOfLinks}
-use Rattle.press_last.proofs.Peaking.{peak-next, peak-done}
+use Rattle.press_peak.specs.Peaks.{peakOfLinks}
+use Rattle.press_peak.proofs.Peaking.{peak-next, peak-done}
 use borrow.Author.Needs.{needs}
-use Rattle.press_last.proofs.peak.peak_with.Statement.{statement}
-use Rattle.press_last.proofs.peak.peak_with.Tie as tie
+use Rattle.press_peak.proofs.peak_with.Statement.{statement}
+use Rattle.press_peak.proofs.peak_with.Tie as tie
 
 abbrev Inv-loop : tie.InvT-loop
 Inv-loop links last held₀ peak₀ k₀ held peak k =

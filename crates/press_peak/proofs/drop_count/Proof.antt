@@ -1,8 +1,8 @@
 use mathlib.Core.Path.{sym, _∙_}
-use Rattle.press_last.proofs.Peaking.{drop-none, drop-one}
+use Rattle.press_peak.proofs.Peaking.{drop-none, drop-one}
 use borrow.Author.Needs.{needs}
-use Rattle.press_last.proofs.peak.drop_count.Statement.{statement}
-use Rattle.press_last.proofs.peak.drop_count.Tie as tie
+use Rattle.press_peak.proofs.drop_count.Statement.{statement}
+use Rattle.press_peak.proofs.drop_count.Tie as tie
 
 used-after-requires : tie.Need-used-after-requires
 used-after-requires c κs = search needs
