@@ -1,24 +1,14 @@
 // Judging: "Checks 1 to 5 come first, in number order, and report record 0. Then records in order: the first bad record answers",
 // with the first number that applies.
 ghost use mathlib.Core.Path.{_≡_};
-ghost use Prim.Native.Nat.{ℕ, _*_, _/_, _<_, _≤_};
-ghost use mathlib.Core.List.{List};
-ghost use lib.ListN.{length, take};
-ghost use Rattle.clause.specs.Denote.{literalsOf};
-ghost use Rattle.sheet.specs.declared.edition.Edition.{Edition};
+ghost use Prim.Native.Nat.{_*_, _/_, _≤_};
+ghost use lib.ListN.{length};
 ghost use Rattle.sheet.specs.Editions.{recordBytes, pressRecords, capacity};
-ghost use Rattle.sheet.specs.Records.{step};
-ghost use Rattle.press_spec.specs.Judge.{sizes, checkRoom, checkPress, checkNode, turn, judge};
-ghost use Rattle.press_judge.specs.Turns.{turnSays, turnStores};
+ghost use Rattle.press_spec.specs.Judge.{sizes, checkRoom, checkPress, judge};
 ghost use Rattle.press_nodes.specs.Tables.{clauseWords, nodesIn};
 ghost use Rattle.press_judge.specs.Turns.{judgedIn};
-use clause::Clause;
-use press_nodes::clause_table;
-use press_nodes::node;
 use sheet::NodeNo;
-use sheet::Reading;
 use sheet::Reason;
-use sheet::Record;
 use sheet::RecordNo;
 use sheet::Verdict;
 use sheet::edition::Edition;
@@ -59,73 +49,6 @@ pub fn judge_lengths(
     check_room(edition, sheet, rules, out, marks)
 }
 
-// 9, 11 and 12, of a step after `next` nodes.
-fn check_step(
-    clauses: &[u64],
-    next: NodeNo,
-    pivot: u8,
-    left: NodeNo,
-    right: NodeNo,
-    written: Clause,
-) -> Verdict
-    requires { ⌜ clauseWords (next .0) ≤ length (now clauses) ⌝ }
-    ensures { λ v. ⌜ ((e : Edition) (rules links : List ℕ) → next .0 ≤ length links → v ≡ checkNode e rules (take (next .0) (nodesIn links (now (clauses .entry)))) (step pivot (left .0) (right .0) (literalsOf written))) ⌝ }
-{
-    let left_verdict = sheet_checks::check_earlier(next, left);
-    let Verdict::Fine = left_verdict else {
-        return left_verdict;
-    };
-    let right_verdict = sheet_checks::check_earlier(next, right);
-    let Verdict::Fine = right_verdict else {
-        return right_verdict;
-    };
-    let left_clause = clause_table::clause_at(clauses, left);
-    let right_clause = clause_table::clause_at(clauses, right);
-    sheet_checks::check_step(pivot, left_clause, right_clause, written)
-}
-
-// Record k: it is judged against the k nodes before it, and stored as node k if it is proper.
-fn judge_turn(
-    edition: Edition,
-    bytes: &[u8],
-    rules: &[u8],
-    links: &mut [u64],
-    clauses: &mut [u64],
-    k: NodeNo,
-) -> Verdict
-    requires { ⌜ (length (now clauses) ≡ clauseWords (length (now links))) × (k .0 < length (now links)) × (recordBytes edition ≤ length (now bytes)) ⌝ }
-    ensures { λ v. ⌜ (v ≡ turnSays (turn edition (now (rules .entry)) (now (bytes .entry)) (take (k .0) (nodesIn (now (links .entry)) (now (clauses .entry)))))) × (nodesIn (now (links .exit)) (now (clauses .exit)) ≡ turnStores (k .0) (turn edition (now (rules .entry)) (now (bytes .entry)) (take (k .0) (nodesIn (now (links .entry)) (now (clauses .entry))))) (nodesIn (now (links .entry)) (now (clauses .entry)))) ⌝ }
-{
-    let reading = sheet_read::read_record(edition, bytes, false);
-    let Reading::Reads(record) = reading else {
-        return sheet_read::verdict_of(reading);
-    };
-    match record {
-        Record::Given { line, clause } => {
-            let verdict = sheet_checks::check_given(edition, rules, line, clause);
-            let Verdict::Fine = verdict else {
-                return verdict;
-            };
-            node::put_given(links, clauses, k, line, clause);
-            verdict
-        }
-        Record::Step {
-            pivot,
-            left,
-            right,
-            clause,
-        } => {
-            let verdict = check_step(clauses, k, pivot, left, right, clause);
-            let Verdict::Fine = verdict else {
-                return verdict;
-            };
-            node::put_step(links, clauses, k, pivot, left, right, clause);
-            verdict
-        }
-        Record::Drop(_) => Verdict::Refused(Reason::Kind),
-    }
-}
-
 // "Nodes are given and resolution records, numbered from 0": the press knows no drops, so every record before node n is a node, and node n is
 // record n. No other function makes a record's number of a node's.
 fn record_of(n: NodeNo) -> RecordNo
@@ -153,7 +76,14 @@ pub fn judge(
         let here = record_of(next);
         let at = edition.start(here);
         let end = at + edition.record_bytes();
-        let verdict = judge_turn(edition, &sheet[at..end], rules, links, clauses, next);
+        let verdict = press_record::judge_turn(
+            edition,
+            &sheet[at..end],
+            rules,
+            links,
+            clauses,
+            next,
+        );
         match verdict {
             Verdict::Fine => {}
             Verdict::Refused(why) => return Judgement::Bad(why, here),

@@ -10,7 +10,8 @@ use Rattle.replay_spec.specs.Slots.{Slot, put, held, clauseHeld, room, look, ho
 use Rattle.replay_spec.specs.Step.{State, state, checkHeld, checkRoom, checkRecord, stored, after, byVerdict, byReading, Judged, judged, byTurn}
 use Rattle.replay_slots.specs.Said.{Decided}
 use Rattle.replay_verdict.specs.Found.{checkPlace, checkFound}
-use Rattle.replay_decide.specs.Decides.{leftSought, rightSought, roomSought, placed, byChecks, decided}
+use Rattle.replay_sought.specs.Sought.{leftSought, rightSought, roomSought}
+use Rattle.replay_decide.specs.Decides.{placed, byChecks, decided}
 
 -- what the checks say, the tally, and the row with the slot put into it
 abbrev pub comesTo : Decided → List Slot → Judged

@@ -1,35 +1,14 @@
--- What is looked for in the row for a record, and what the record comes to with what was found.
+-- What a record comes to, with what was found in the row.
 use Prim.Native.Nat.{ℕ}
 use mathlib.Core.List.{List}
 use Rattle.sheet.specs.declared.Verdict.{Verdict}
 use Rattle.sheet.specs.declared.Verdict.the-variants.{Fine, Refused}
 use Rattle.sheet.specs.declared.edition.Edition.{Edition}
-use Rattle.sheet.specs.Records.{given, step, Record, node, drop, clause, Reading, reads, unread}
+use Rattle.sheet.specs.Records.{Record, node, drop, clause, Reading, reads, unread}
 use Rattle.tally.specs.Tally.{Tally, counted}
-use Rattle.replay_spec.specs.Slots.{slot, empty, Place, nowhere, into, Sought, nothing, vacancy, holder}
+use Rattle.replay_spec.specs.Slots.{slot, empty, Place, nowhere, into}
 use Rattle.replay_slots.specs.Said.{Decided}
 use Rattle.replay_verdict.specs.Found.{checkFound}
-
--- a step's left parent, a drop's node
-unfoldable pub leftSought : Reading → Sought
-leftSought (reads (node (given line c))) = nothing
-leftSought (reads (node (step p l r c))) = holder l
-leftSought (reads (drop n)) = holder n
-leftSought (unread why) = nothing
-
--- a step's right parent
-unfoldable pub rightSought : Reading → Sought
-rightSought (reads (node (given line c))) = nothing
-rightSought (reads (node (step p l r c))) = holder r
-rightSought (reads (drop n)) = nothing
-rightSought (unread why) = nothing
-
--- room for a node
-unfoldable pub roomSought : Reading → Sought
-roomSought (reads (node (given line c))) = vacancy
-roomSought (reads (node (step p l r c))) = vacancy
-roomSought (reads (drop n)) = nothing
-roomSought (unread why) = nothing
 
 -- "A node takes the lowest free slot, and a drop zeroes its slot."
 unfoldable pub placed : ℕ → Record → Place → Place → Place

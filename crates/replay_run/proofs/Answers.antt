@@ -48,7 +48,7 @@ use Rattle.replay_answer.specs.Answers.{said, ended}
 use Rattle.replay_answer.proofs.ReplayAnswer as B
 use Rattle.replay_answer.proofs.ReplayAnswer.Laws as B′
 use Rattle.replay_row.proofs.Cells.{gv, pv}
-use Rattle.replay_step.proofs.Values.{tally-val, answer-val, verdict-val, record-val}
+use Rattle.replay_take.proofs.Values.{tally-val, answer-val, verdict-val, record-val}
 use Rattle.tally.proofs.nothing as nothing′
 use Rattle.tally.proofs.nothing.Symbol.{name as #nothing}
 use Rattle.replay_slots.proofs.nowhere as nowhere′

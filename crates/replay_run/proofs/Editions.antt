@@ -30,7 +30,7 @@ use Rattle.sheet.proofs.edition.Edition as N
 use Rattle.sheet.proofs.edition.Edition.Laws as N′
 use Rattle.sheet.proofs.edition.Edition.record_bytes as bytes′
 use Rattle.sheet.proofs.edition.Edition.record_bytes.Symbol.{name as #bytes}
-use Rattle.replay_step.proofs.Values.{edition-val}
+use Rattle.replay_take.proofs.Values.{edition-val}
 
 -- it fits a word
 pub a-record-fits : (e : Edition) → recordBytes e < 2 ^ 64

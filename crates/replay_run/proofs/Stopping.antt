@@ -7,7 +7,7 @@ use Rattle.tally.specs.declared.Tally.{Tally}
 use Rattle.tally.proofs.Tally as Y
 use Rattle.replay_answer.specs.declared.ReplayAnswer.{ReplayAnswer}
 use Rattle.replay_answer.proofs.ReplayAnswer as B
-use Rattle.replay_step.proofs.Values.{tally-val, answer-val}
+use Rattle.replay_take.proofs.Values.{tally-val, answer-val}
 use Rattle.replay_run.specs.declared.Ran.{Ran}
 use Rattle.replay_run.proofs.Ran as Q
 use Rattle.replay_run.proofs.Ran.Laws as Q′

@@ -35,7 +35,7 @@ pub fn run(edition: Edition, sheet: &[u8], rules: &[u8], slots: &mut [Slot]) -> 
     while k < records {
         let at = bytes * k;
         let end = at + bytes;
-        let verdict = replay_step::take(edition, slots, &mut t, rules, &sheet[at..end]);
+        let verdict = replay_take::take(edition, slots, &mut t, rules, &sheet[at..end]);
         if replay_answer::passes(verdict) {
             k += 1;
         } else {

@@ -1,3 +1,1 @@
-pub mod Going
 pub mod Stepping
-pub mod Values

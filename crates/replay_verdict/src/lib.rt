@@ -1,9 +1,7 @@
-// What is wrong with a record that reads (9 to 15), by what was found in the row; and whether a step is lent what a replay has.
+// What is wrong with a record that reads (9 to 15), by what was found in the row.
 ghost use mathlib.Core.Path.{_≡_};
 ghost use Rattle.sheet.specs.Reasons.{andThen};
 ghost use Rattle.sheet.specs.Denote.{recordOf};
-ghost use Rattle.tally.specs.Said.{tallyOf};
-ghost use Rattle.replay_spec.specs.Step.{reached, fits};
 ghost use Rattle.replay_slots.specs.Said.{placeOf};
 ghost use Rattle.replay_verdict.specs.Found.{checkPlace, checkFound};
 use replay_slots::Place;
@@ -12,7 +10,6 @@ use sheet::Reason;
 use sheet::Record;
 use sheet::Verdict;
 use sheet::edition::Edition;
-use tally::Tally;
 
 // 10: named node was dropped. 15: every slot holds a node.
 fn check_place(why: Reason, place: Place) -> Verdict
@@ -74,30 +71,4 @@ pub fn check_record(
         }
         Record::Drop(n) => and_then(sheet_checks::check_earlier(next, n), left_held),
     }
-}
-
-// A tally that a replay within its limit reaches before a record.
-fn within(edition: Edition, t: Tally) -> bool
-    ensures { λ b. ⌜ b ≡ reached edition (tallyOf t) ⌝ }
-{
-    if base::wide(t.next) < edition.replay_records() {
-        if t.held <= t.next {
-            return t.steps <= t.next;
-        }
-    }
-    false
-}
-
-// What a step asks of its caller: a record's bytes, a rule table that check 4 passes, a tally within a replay's limit.
-pub fn fits(edition: Edition, rules: usize, bytes: usize, t: Tally) -> bool
-    ensures { λ b. ⌜ b ≡ fits edition rules bytes (tallyOf t) ⌝ }
-{
-    if bytes != edition.record_bytes() {
-        return false;
-    }
-    let verdict = sheet_checks::check_table(edition, rules);
-    let Verdict::Fine = verdict else {
-        return false;
-    };
-    within(edition, t)
 }

@@ -69,7 +69,7 @@ use Rattle.sheet.specs.declared.SlotNo.{SlotNo}
 use Rattle.sheet.proofs.SlotNo as N
 use Rattle.sheet.proofs.SlotNo.Laws as N′
 use Rattle.replay_row.proofs.Prims.{sv, nv, Empty}
-use Rattle.replay_step.proofs.Values.{edition-val}
+use Rattle.replay_take.proofs.Values.{edition-val}
 use Rattle.replay_look.proofs.Shown.{look-val}
 use Rattle.replay.proofs.Owned.{row-replicate, n≤, roomy}
 use Rattle.replay_look.proofs.Look as R

@@ -85,14 +85,15 @@ use Rattle.replay_look.specs.After.{afterRecords, lookAt, lookOf}
 use Rattle.replay_look.specs.After.{look as looks}
 use Rattle.replay_look.proofs.Look as L
 use Rattle.replay_look.proofs.Look.Laws as L′
-use Rattle.replay_step.proofs.Values.{edition-val, tally-val, step-val}
+use Rattle.replay_take.proofs.Values.{edition-val, tally-val, step-val}
 use Rattle.replay_look.proofs.Shown.{look-val}
 use Rattle.replay_row.proofs.Prims.{sv, nv, Slot-at, call-slot-at}
 use Rattle.replay_run.proofs.Answers.{Nothing, call-nothing}
 use Rattle.replay_run.proofs.Editions.{a-record-fits, Bytes, call-bytes}
-use Rattle.replay_step.proofs.Stepping.{number, number-is, call-step-at, Step}
+use Rattle.replay_take.proofs.Taking.{number, number-is}
+use Rattle.replay_step.proofs.Stepping.{call-step-at, Step}
 use Rattle.sheet.proofs.RecordBytes.{lent, lent-is}
-use Rattle.replay_step.proofs.Going.{number-fits, count-fits, at-fits, end-fits, part-fits, at-end}
+use Rattle.replay_take.proofs.Going.{number-fits, count-fits, at-fits, end-fits, part-fits, at-end}
 use Rattle.replay_look.proofs.upto as upto′
 use Rattle.replay_look.proofs.upto.Symbol as upto-def
 use Rattle.replay_look.proofs.upto.Symbol.{name as #upto}

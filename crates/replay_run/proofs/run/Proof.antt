@@ -104,12 +104,12 @@ use Rattle.replay_row.proofs.Prims.{Find, call-find}
 use Rattle.replay_row.proofs.find.Symbol as find-def
 use Rattle.replay_row.proofs.find.Symbol.{name as #find}
 use Rattle.replay_row.proofs.find.Met as find-thm
-use Rattle.replay_step.proofs.Values.{edition-val, tally-val, verdict-val, answer-val, record-val}
-use Rattle.replay_step.proofs.Stepping.{number, number-is, Takes, Take, call-take-at}
-use Rattle.replay_step.proofs.Going.{number-fits, Goes, goes-none, goes-all, next-fits, goes-on, goes-no-more, count-fits, at-fits, end-fits, part-fits, at-end}
-use Rattle.replay_step.proofs.take.Symbol as take-def
-use Rattle.replay_step.proofs.take.Symbol.{name as #take}
-use Rattle.replay_step.proofs.take.Met as take-thm
+use Rattle.replay_take.proofs.Values.{edition-val, tally-val, verdict-val, answer-val, record-val}
+use Rattle.replay_take.proofs.Taking.{number, number-is, Takes, Take, call-take-at}
+use Rattle.replay_take.proofs.Going.{number-fits, Goes, goes-none, goes-all, next-fits, goes-on, goes-no-more, count-fits, at-fits, end-fits, part-fits, at-end}
+use Rattle.replay_take.proofs.take.Symbol as take-def
+use Rattle.replay_take.proofs.take.Symbol.{name as #take}
+use Rattle.replay_take.proofs.take.Met as take-thm
 use Rattle.replay_run.proofs.Editions.{a-record-fits, Bytes, call-bytes}
 use Rattle.replay_run.proofs.Answers.{Nothing, Nowhere, Passes, Last-sought, End, call-nothing, call-nowhere, call-passes, call-last, call-end}
 use Rattle.replay_run.specs.declared.Ran.{Ran}
@@ -358,7 +358,7 @@ run-spec 𝓤 H 𝓜 𝓖 𝓡 =
     (record {
       bytes = cited 𝓤 H (Bytes 𝓤 H (𝓖 .A) (𝓜 .mem) (𝓡 .run)) 𝓜 𝓡 code.env #bytes bytes-def.routine code.calls-sheet·edition·Edition·record-bytes (bytes-thm.met 𝓤 H 𝓜 𝓖 𝓡);
       nothing = cited 𝓤 H (Nothing 𝓤 H (𝓖 .A) (𝓜 .mem) (𝓡 .run)) 𝓜 𝓡 code.env #nothing nothing-def.routine code.calls-tally·nothing (nothing-thm.met 𝓤 H 𝓜 𝓖 𝓡);
-      take = cited 𝓤 H (Take 𝓤 H (𝓖 .A) (𝓜 .mem) (𝓡 .run)) 𝓜 𝓡 code.env #take take-def.routine code.calls-replay-step·take (take-thm.met 𝓤 H 𝓜 𝓖 𝓡);
+      take = cited 𝓤 H (Take 𝓤 H (𝓖 .A) (𝓜 .mem) (𝓡 .run)) 𝓜 𝓡 code.env #take take-def.routine code.calls-replay-take·take (take-thm.met 𝓤 H 𝓜 𝓖 𝓡);
       passes = cited 𝓤 H (Passes 𝓤 H (𝓖 .A) (𝓜 .mem) (𝓡 .run)) 𝓜 𝓡 code.env #passes passes-def.routine code.calls-replay-answer·passes (passes-thm.met 𝓤 H 𝓜 𝓖 𝓡);
       nowhere = cited 𝓤 H (Nowhere 𝓤 H (𝓖 .A) (𝓜 .mem) (𝓡 .run)) 𝓜 𝓡 code.env #nowhere nowhere-def.routine code.calls-replay-slots·nowhere (nowhere-thm.met 𝓤 H 𝓜 𝓖 𝓡);
       last = cited 𝓤 H (Last-sought 𝓤 H (𝓖 .A) (𝓜 .mem) (𝓡 .run)) 𝓜 𝓡 code.env #last last-def.routine code.calls-replay-answer·last-sought (last-thm.met 𝓤 H 𝓜 𝓖 𝓡);

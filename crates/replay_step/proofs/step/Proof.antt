@@ -72,19 +72,20 @@ use Rattle.replay_slots.specs.Said.{saidOfStep, rowOf}
 use Rattle.replay_slots.proofs.Slot as T
 use Rattle.replay_slots.proofs.StepAnswer as S
 use Rattle.replay_slots.proofs.StepAnswer.Laws as S′
-use Rattle.replay_verdict.proofs.fits as fits′
-use Rattle.replay_verdict.proofs.fits.Symbol as fits-def
-use Rattle.replay_verdict.proofs.fits.Symbol.{name as #fits}
-use Rattle.replay_verdict.proofs.fits.Met as fits-thm
-use Rattle.replay_decide.proofs.answered as answered′
-use Rattle.replay_decide.proofs.answered.Symbol as answered-def
-use Rattle.replay_decide.proofs.answered.Symbol.{name as #answered}
-use Rattle.replay_decide.proofs.answered.Met as answered-thm
-use Rattle.replay_step.proofs.take.Symbol as take-def
-use Rattle.replay_step.proofs.take.Symbol.{name as #take}
-use Rattle.replay_step.proofs.take.Met as take-thm
-use Rattle.replay_step.proofs.Values.{edition-val, tally-val, verdict-val, step-val, record-val}
-use Rattle.replay_step.proofs.Stepping.{Takes, Comes, Take, call-take}
+use Rattle.replay_fits.proofs.fits as fits′
+use Rattle.replay_fits.proofs.fits.Symbol as fits-def
+use Rattle.replay_fits.proofs.fits.Symbol.{name as #fits}
+use Rattle.replay_fits.proofs.fits.Met as fits-thm
+use Rattle.replay_fits.proofs.answered as answered′
+use Rattle.replay_fits.proofs.answered.Symbol as answered-def
+use Rattle.replay_fits.proofs.answered.Symbol.{name as #answered}
+use Rattle.replay_fits.proofs.answered.Met as answered-thm
+use Rattle.replay_take.proofs.take.Symbol as take-def
+use Rattle.replay_take.proofs.take.Symbol.{name as #take}
+use Rattle.replay_take.proofs.take.Met as take-thm
+use Rattle.replay_take.proofs.Values.{edition-val, tally-val, verdict-val, step-val, record-val}
+use Rattle.replay_take.proofs.Taking.{Takes, Take, call-take}
+use Rattle.replay_step.proofs.Stepping.{Comes}
 use Rattle.replay_step.proofs.step.Key.{name as #key}
 use Rattle.replay_step.proofs.step as f
 use Rattle.replay_step.proofs.step.Statement as stated
@@ -271,7 +272,7 @@ step-spec 𝓤 H 𝓜 𝓖 𝓡 =
     (tables 𝓤 H 𝓜 𝓡 code.env .C) (tables 𝓤 H 𝓜 𝓡 code.env .Λ) #key code.function (code.unfolded 𝓤 H 𝓜 𝓡)
     (meets 𝓤 H (𝓖 .A) (givenOf 𝓤 H 𝓜 𝓖) (𝓜 .mem) (𝓡 .run) (tablesOf 𝓤 H 𝓜 (tables 𝓤 H 𝓜 𝓡 code.env))
     (record {
-      fit = cited 𝓤 H (Fits 𝓤 H (𝓖 .A) (𝓜 .mem) (𝓡 .run)) 𝓜 𝓡 code.env #fits fits-def.routine code.calls-replay-verdict·fits (fits-thm.met 𝓤 H 𝓜 𝓖 𝓡);
-      take = cited 𝓤 H (Take 𝓤 H (𝓖 .A) (𝓜 .mem) (𝓡 .run)) 𝓜 𝓡 code.env #take take-def.routine code.calls-replay-step·take (take-thm.met 𝓤 H 𝓜 𝓖 𝓡);
-      answer = cited 𝓤 H (Answered 𝓤 H (𝓖 .A) (𝓜 .mem) (𝓡 .run)) 𝓜 𝓡 code.env #answered answered-def.routine code.calls-replay-decide·answered (answered-thm.met 𝓤 H 𝓜 𝓖 𝓡);
+      fit = cited 𝓤 H (Fits 𝓤 H (𝓖 .A) (𝓜 .mem) (𝓡 .run)) 𝓜 𝓡 code.env #fits fits-def.routine code.calls-replay-fits·fits (fits-thm.met 𝓤 H 𝓜 𝓖 𝓡);
+      take = cited 𝓤 H (Take 𝓤 H (𝓖 .A) (𝓜 .mem) (𝓡 .run)) 𝓜 𝓡 code.env #take take-def.routine code.calls-replay-take·take (take-thm.met 𝓤 H 𝓜 𝓖 𝓡);
+      answer = cited 𝓤 H (Answered 𝓤 H (𝓖 .A) (𝓜 .mem) (𝓡 .run)) 𝓜 𝓡 code.env #answered answered-def.routine code.calls-replay-fits·answered (answered-thm.met 𝓤 H 𝓜 𝓖 𝓡);
     }))

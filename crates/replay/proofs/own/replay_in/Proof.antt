@@ -65,7 +65,7 @@ use Rattle.lending.proofs.Locals.{tyAt}
 use Rattle.replay_answer.specs.Answers.{said}
 use Rattle.replay_answer.specs.declared.ReplayAnswer.{ReplayAnswer}
 use Rattle.replay_row.proofs.Prims.{sv, Empty}
-use Rattle.replay_step.proofs.Values.{edition-val}
+use Rattle.replay_take.proofs.Values.{edition-val}
 use Rattle.replay.proofs.Owned.{row-replicate, n≤, roomy}
 use Rattle.replay_answer.proofs.ReplayAnswer as R
 use Rattle.replay_answer.proofs.ReplayAnswer.Laws as R′
