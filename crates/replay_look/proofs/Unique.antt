@@ -1,6 +1,6 @@
 -- Nothing else satisfies the promise: what a look says is said by no other.
 use mathlib.Core.Path.{_≡_, sym, ap, _∙_}
-use Rattle.replay.proofs.Unique.{saidOfStep-injective, tallyOf-injective, slotOf-injective}
+use Rattle.replay_slots.proofs.Unique.{saidOfStep-injective, tallyOf-injective, slotOf-injective}
 use Rattle.replay_look.specs.declared.Look.{Look as CodeLook}
 use Rattle.replay_look.specs.After.{Look, lookOf, LookFits}
 

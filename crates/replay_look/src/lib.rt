@@ -9,7 +9,6 @@ ghost use Rattle.replay_spec.specs.Slots.{empty};
 ghost use Rattle.replay_spec.specs.Step.{state, taken};
 ghost use Rattle.replay_slots.specs.Said.{rowOf, saidOfStep};
 ghost use Rattle.replay_look.specs.After.{afterRecords, lookAt, lookOf};
-use replay::own;
 use replay_slots::Slot;
 use replay_slots::StepAnswer;
 use sheet::RecordNo;
@@ -86,6 +85,6 @@ pub fn look_after(
 {
     let none = replay_slots::empty();
     let mut row = [none; sheet::limits::MOST_RECORDS];
-    let n = own::enough(slots);
+    let n = replay_slots::enough(slots);
     look_from(edition, sheet, rules, &mut row[..n], records, at)
 }

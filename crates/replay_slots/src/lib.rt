@@ -1,6 +1,8 @@
 // What a step of the replay works on: slots, places in the row, and what is looked for and decided.
 ghost use mathlib.Core.Path.{_≡_};
+ghost use Prim.Native.Nat.{min};
 ghost use Rattle.clause.specs.Denote.{literalsOf};
+ghost use Rattle.sheet.specs.Editions.{mostRecords};
 ghost use Rattle.replay_spec.specs.Slots.{slot, empty, holding, nowhere, at, slotIn, into};
 ghost use Rattle.replay_slots.specs.Said.{slotOf, placeOf, soughtOf};
 ghost use Rattle.replay_slots.specs.Looks.{isSought, passed, indexIn};
@@ -136,5 +138,16 @@ pub fn index_in(place: Place, slots: usize) -> usize
     match place {
         Place::Nowhere => slots,
         Place::At(i, _) => i.index(),
+    }
+}
+
+// The slots of a row of one's own: as many as are asked for, and at most as many as there may be records in any edition.
+pub fn enough(slots: usize) -> usize
+    ensures { λ n. ⌜ n ≡ min slots mostRecords ⌝ }
+{
+    if slots < sheet::limits::MOST_RECORDS {
+        slots
+    } else {
+        sheet::limits::MOST_RECORDS
     }
 }

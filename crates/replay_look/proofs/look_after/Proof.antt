@@ -71,13 +71,13 @@ use Rattle.sheet.proofs.SlotNo.Laws as N′
 use Rattle.replay_row.proofs.Prims.{sv, nv, Empty}
 use Rattle.replay_take.proofs.Values.{edition-val}
 use Rattle.replay_look.proofs.Shown.{look-val}
-use Rattle.replay.proofs.Owned.{row-replicate, n≤, roomy}
+use Rattle.replay_slots.proofs.Owned.{row-replicate, n≤, roomy}
 use Rattle.replay_look.proofs.Look as R
 use Rattle.replay_look.proofs.Look.Laws as R′
-use Rattle.replay.proofs.own.enough as enough′
-use Rattle.replay.proofs.own.enough.Symbol as enough-def
-use Rattle.replay.proofs.own.enough.Symbol.{name as #enough}
-use Rattle.replay.proofs.own.enough.Met as enough-thm
+use Rattle.replay_slots.proofs.enough as enough′
+use Rattle.replay_slots.proofs.enough.Symbol as enough-def
+use Rattle.replay_slots.proofs.enough.Symbol.{name as #enough}
+use Rattle.replay_slots.proofs.enough.Met as enough-thm
 use Rattle.replay_look.proofs.look_from as from′
 use Rattle.replay_look.proofs.look_from.Symbol as from-def
 use Rattle.replay_look.proofs.look_from.Symbol.{name as #look-from}
@@ -171,5 +171,5 @@ look-after-spec 𝓤 H 𝓜 𝓖 𝓡 =
     (tables 𝓤 H 𝓜 𝓡 code.env .C) (tables 𝓤 H 𝓜 𝓡 code.env .Λ) #key code.function (code.unfolded 𝓤 H 𝓜 𝓡)
     (meets 𝓤 H (𝓖 .A) (givenOf 𝓤 H 𝓜 𝓖) (𝓜 .mem) (𝓡 .run) (tablesOf 𝓤 H 𝓜 (tables 𝓤 H 𝓜 𝓡 code.env))
     (cited 𝓤 H (Empty 𝓤 H (𝓖 .A) (𝓜 .mem) (𝓡 .run)) 𝓜 𝓡 code.env #empty empty-def.routine code.calls-replay-slots·empty (empty-thm.met 𝓤 H 𝓜 𝓖 𝓡))
-    (cited 𝓤 H (Enough 𝓤 H (𝓖 .A) (𝓜 .mem) (𝓡 .run)) 𝓜 𝓡 code.env #enough enough-def.routine code.calls-replay·own·enough (enough-thm.met 𝓤 H 𝓜 𝓖 𝓡))
+    (cited 𝓤 H (Enough 𝓤 H (𝓖 .A) (𝓜 .mem) (𝓡 .run)) 𝓜 𝓡 code.env #enough enough-def.routine code.calls-replay-slots·enough (enough-thm.met 𝓤 H 𝓜 𝓖 𝓡))
     (cited 𝓤 H (From 𝓤 H (𝓖 .A) (𝓜 .mem) (𝓡 .run)) 𝓜 𝓡 code.env #look-from from-def.routine code.calls-replay-look·look-from (from-thm.met 𝓤 H 𝓜 𝓖 𝓡)))

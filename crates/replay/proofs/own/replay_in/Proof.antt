@@ -66,13 +66,13 @@ use Rattle.replay_answer.specs.Answers.{said}
 use Rattle.replay_answer.specs.declared.ReplayAnswer.{ReplayAnswer}
 use Rattle.replay_row.proofs.Prims.{sv, Empty}
 use Rattle.replay_take.proofs.Values.{edition-val}
-use Rattle.replay.proofs.Owned.{row-replicate, n≤, roomy}
+use Rattle.replay_slots.proofs.Owned.{row-replicate, n≤, roomy}
 use Rattle.replay_answer.proofs.ReplayAnswer as R
 use Rattle.replay_answer.proofs.ReplayAnswer.Laws as R′
-use Rattle.replay.proofs.own.enough as enough′
-use Rattle.replay.proofs.own.enough.Symbol as enough-def
-use Rattle.replay.proofs.own.enough.Symbol.{name as #enough}
-use Rattle.replay.proofs.own.enough.Met as enough-thm
+use Rattle.replay_slots.proofs.enough as enough′
+use Rattle.replay_slots.proofs.enough.Symbol as enough-def
+use Rattle.replay_slots.proofs.enough.Symbol.{name as #enough}
+use Rattle.replay_slots.proofs.enough.Met as enough-thm
 use Rattle.replay.proofs.replay as replay′
 use Rattle.replay.proofs.replay.Symbol as replay-def
 use Rattle.replay.proofs.replay.Symbol.{name as #replay}
@@ -169,5 +169,5 @@ replay-in-spec 𝓤 H 𝓜 𝓖 𝓡 =
     (tables 𝓤 H 𝓜 𝓡 code.env .C) (tables 𝓤 H 𝓜 𝓡 code.env .Λ) #key code.function (code.unfolded 𝓤 H 𝓜 𝓡)
     (meets 𝓤 H (𝓖 .A) (givenOf 𝓤 H 𝓜 𝓖) (𝓜 .mem) (𝓡 .run) (tablesOf 𝓤 H 𝓜 (tables 𝓤 H 𝓜 𝓡 code.env))
     (cited 𝓤 H (Empty 𝓤 H (𝓖 .A) (𝓜 .mem) (𝓡 .run)) 𝓜 𝓡 code.env #empty empty-def.routine code.calls-replay-slots·empty (empty-thm.met 𝓤 H 𝓜 𝓖 𝓡))
-    (cited 𝓤 H (Enough 𝓤 H (𝓖 .A) (𝓜 .mem) (𝓡 .run)) 𝓜 𝓡 code.env #enough enough-def.routine code.calls-replay·own·enough (enough-thm.met 𝓤 H 𝓜 𝓖 𝓡))
+    (cited 𝓤 H (Enough 𝓤 H (𝓖 .A) (𝓜 .mem) (𝓡 .run)) 𝓜 𝓡 code.env #enough enough-def.routine code.calls-replay-slots·enough (enough-thm.met 𝓤 H 𝓜 𝓖 𝓡))
     (cited 𝓤 H (Replay 𝓤 H (𝓖 .A) (𝓜 .mem) (𝓡 .run)) 𝓜 𝓡 code.env #replay replay-def.routine code.calls-replay·replay (replay-thm.met 𝓤 H 𝓜 𝓖 𝓡)))
