@@ -98,6 +98,11 @@ impl Clause {
         Clause(self.0.union(&other.0).copied().collect())
     }
 
+    /// The literals that are in both.
+    pub fn common(&self, other: &Clause) -> Clause {
+        Clause(self.0.intersection(&other.0).copied().collect())
+    }
+
     pub fn is_within(&self, other: &Clause) -> bool {
         self.0.is_subset(&other.0)
     }

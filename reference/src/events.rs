@@ -4,6 +4,7 @@ use crate::passes::drops::peak;
 use crate::passes::order::order_by;
 use crate::passes::rebuild::Why;
 use crate::passes::recycle::{uncut_edges, Edge};
+use crate::plan::{Plan, Recycling};
 use crate::press::Passes;
 use crate::proof::{Node, Proof};
 use crate::record::Record;
@@ -12,9 +13,10 @@ use std::collections::{BTreeMap, BTreeSet};
 pub type Event = (&'static str, bool);
 
 /// What happened inside an accepted press.
-pub fn pass_events(passes: &Passes) -> Vec<Event> {
+pub fn pass_events(plan: Plan, passes: &Passes) -> Vec<Event> {
     let parts = [
         shortening_events(passes),
+        sharing_events(plan.recycling, passes),
         order_events(passes),
         output_events(passes),
     ];
@@ -27,7 +29,6 @@ fn shortening_events(passes: &Passes) -> Vec<Event> {
     let rebuilt = passes.rebuilt.nodes.len();
     let cut = |edge| passes.visits.values().any(|visit| visit.cut == Some(edge));
     let why = |why| passes.rebuilt.why.values().any(|w| *w == why);
-    let resets = resets(passes);
     vec![
         (
             "input: a derived clause holds v both ways",
@@ -37,8 +38,6 @@ fn shortening_events(passes: &Passes) -> Vec<Event> {
         ("recycle: left edge cut", cut(Edge::Left)),
         ("recycle: right edge cut", cut(Edge::Right)),
         ("recycle: S handed on cuts again", cuts_again(passes)),
-        ("recycle: S reset by two uses", !resets.is_empty()),
-        ("recycle: the reset prevented a cut", resets.contains(&true)),
         (
             "rebuild: left stand-in lacks pivot",
             why(Why::LeftLacksPivot),
@@ -141,22 +140,45 @@ fn both_ways(passes: &Passes) -> bool {
     passes.input.nodes.values().any(holds)
 }
 
-/// One entry for each edge into a step with two or more uses that would have
-/// handed over literals: whether one of them would have cut that step.
-fn resets(passes: &Passes) -> BTreeSet<bool> {
+/// What the recycling came to at steps with two or more uses.
+fn sharing_events(recycling: Recycling, passes: &Passes) -> Vec<Event> {
     let uses = passes.trimmed.uses();
+    let shared = |number: &usize| uses[number] >= 2;
     let edges = passes
         .visits
         .iter()
         .flat_map(|(number, visit)| uncut_edges(&passes.trimmed.nodes[number], visit));
-    let mut resets = BTreeSet::new();
-    for (parent, handed) in edges.filter(|(parent, _)| uses[parent] >= 2) {
-        if let Node::Step { pivot, .. } = passes.trimmed.nodes[&parent] {
-            let mut variables = handed.literals().map(|literal| literal.variable());
-            resets.insert(variables.any(|variable| variable == pivot));
+    let handed = edges.filter(|(parent, _)| shared(parent));
+    // steps that a set handed to them would cut
+    let mut threatened = handed.filter_map(|(parent, set)| match passes.trimmed.nodes[&parent] {
+        Node::Step { pivot, .. } if set.literals().any(|l| l.variable() == pivot) => Some(parent),
+        _ => None,
+    });
+    let is_cut = |number: &usize| passes.visits[number].cut.is_some();
+    let spared = threatened.any(|number| !is_cut(&number));
+    match recycling {
+        Recycling::Reset => vec![("reset: prevented a cut", spared)],
+        Recycling::Intersection => {
+            let cut = passes.visits.keys().any(|n| shared(n) && is_cut(n));
+            vec![
+                ("intersection: a shared step is cut", cut),
+                ("intersection: prevented a cut", spared),
+            ]
         }
     }
-    resets
+}
+
+/// Whether the two recyclings part.
+pub fn parting_events([reset, intersection]: &[Passes; 2]) -> Vec<Event> {
+    let steps = [reset, intersection].map(|passes| passes.pressed.steps());
+    vec![
+        (
+            "both: the recyclings press apart",
+            reset.records != intersection.records,
+        ),
+        ("both: the intersection is shorter", steps[1] < steps[0]),
+        ("both: the reset is shorter", steps[0] < steps[1]),
+    ]
 }
 
 /// Whether a cut step's kept parent is cut in its turn.

@@ -1,8 +1,9 @@
 //! An independent second program for the press and the replay of document 01.
 //!
-//! It was written from document 01 alone, with ordinary collections and no
-//! thought for memory, so that agreement with the proved program means
-//! something. Quotations in the comments are sentences of document 01.
+//! It was written from document 01 alone, and from the requests of document 02
+//! that are done, with ordinary collections and no thought for memory, so that
+//! agreement with the proved program means something. Quotations in the comments
+//! are sentences of the two documents.
 
 pub mod cases;
 pub mod clause;
@@ -11,6 +12,7 @@ pub mod events;
 pub mod judge;
 pub mod lengths;
 pub mod passes;
+pub mod plan;
 pub mod press;
 pub mod program;
 pub mod proof;

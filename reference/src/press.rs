@@ -8,6 +8,7 @@ use crate::passes::order::order;
 use crate::passes::rebuild::{rebuild, Rebuilt};
 use crate::passes::recycle::{recycle, Visits};
 use crate::passes::trim::trim;
+use crate::plan::Plan;
 use crate::proof::{Node, Proof};
 use crate::record::Record;
 use crate::refusal::Refusal;
@@ -41,15 +42,16 @@ pub struct Passes {
 /// "A refused press changes neither output nor marks." Both are written only
 /// once nothing can be refused any more.
 pub fn press(
-    edition: Edition,
+    plan: Plan,
     sheet: &[u8],
     rules: &[u8],
     out: &mut [u8],
     marks: &mut [u8],
 ) -> Result<Pressed, Refusal> {
+    let edition = plan.edition;
     check_inputs(edition, sheet.len(), rules.len(), edition.press_records())?;
     check_room(edition, sheet.len(), rules.len(), out.len(), marks.len())?;
-    let passes = run_passes(read_proof(edition, sheet, rules)?);
+    let passes = run_passes(plan, read_proof(edition, sheet, rules)?);
     let core = core(&passes.records);
 
     let records = passes.records.iter();
@@ -107,10 +109,10 @@ pub fn record_faults(
     faults(bytes, &around)
 }
 
-/// "How a sheet is pressed", steps 1 to 6.
-pub fn run_passes(input: Proof) -> Passes {
+/// "How a sheet is pressed", steps 1 to 6, by the passes chosen.
+pub fn run_passes(plan: Plan, input: Proof) -> Passes {
     let trimmed = trim(&input.nodes, input.sink);
-    let visits = recycle(&trimmed);
+    let visits = recycle(&trimmed, plan.recycling);
     let rebuilt = rebuild(&trimmed, &visits);
     let pressed = trim(&rebuilt.nodes, rebuilt.stand_ins[&trimmed.sink]);
     let order = order(&pressed);

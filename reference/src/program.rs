@@ -4,13 +4,13 @@
 
 use crate::edition::Edition;
 use crate::lengths::check_inputs;
+use crate::plan::Plan;
 use crate::press::{press, Pressed};
 use std::fs::{self, File};
 use std::io::{self, Read};
 use std::path::Path;
 
-/// "The program and the text reader stay with 64 variables".
-const EDITION: Edition = Edition::Narrow;
+const EDITION: Edition = Plan::PROGRAM.edition;
 
 /// A file's whole length, and as much of it as can matter.
 struct Contents {
@@ -49,7 +49,8 @@ fn press_contents(sheet: &Contents, rules: &Contents) -> Result<(Pressed, Vec<u8
         .map_err(|refusal| refusal.to_string())?;
     let mut out = vec![0; EDITION.room(sheet.length / record)];
     let mut marks = vec![0; rules.length / EDITION.line_bytes()];
-    let pressed = press(EDITION, &sheet.start, &rules.start, &mut out, &mut marks)
+    let (sheet, rules) = (&sheet.start, &rules.start);
+    let pressed = press(Plan::PROGRAM, sheet, rules, &mut out, &mut marks)
         .map_err(|refusal| refusal.to_string())?;
     out.truncate(pressed.records * record);
     Ok((pressed, out))

@@ -4,12 +4,13 @@
 
 use crate::clause::{resolve, Clause, Literal};
 use crate::edition::Edition;
+use crate::plan::Plan;
 use crate::press::press;
 use crate::proof::Node;
 use crate::record::Record;
 
-/// A shelf is for the program, which "stay[s] with 64 variables".
-const EDITION: Edition = Edition::Narrow;
+/// A shelf is for the program.
+const EDITION: Edition = Plan::PROGRAM.edition;
 
 #[derive(Default)]
 pub struct Shelf {
@@ -96,7 +97,7 @@ impl Shelf {
         let (sheet, rules) = (self.sheet(), self.rules());
         let mut out = vec![0; EDITION.room(self.nodes.len().max(1))];
         let mut marks = vec![0; self.rules.len()];
-        let pressed = press(EDITION, &sheet, &rules, &mut out, &mut marks).ok()?;
+        let pressed = press(Plan::PROGRAM, &sheet, &rules, &mut out, &mut marks).ok()?;
         out.truncate(pressed.records * EDITION.record_bytes());
         Some(out)
     }

@@ -4,8 +4,9 @@
 use crate::cases::{draw, Case, Size};
 use crate::clause::Clause;
 use crate::edition::Edition;
-use crate::events::{high_events, pass_events, Event};
+use crate::events::{high_events, parting_events, pass_events, Event};
 use crate::judge::TRIED;
+use crate::plan::{Plan, Recycling};
 use crate::press::{press, read_proof, record_faults, run_passes};
 use crate::record::Record;
 use crate::replay::{replay_watched, step, step_faults, Slot, Tally};
@@ -28,12 +29,12 @@ pub fn gather(seed: u64, count: u64, size: Size) -> Stats {
     for index in 0..count {
         match draw(seed, index, size) {
             Case::Press {
-                edition,
+                plan,
                 sheet,
                 rules,
                 room,
                 marks,
-            } => stats.count_press(edition, &sheet, &rules, room, marks),
+            } => stats.count_press(plan, &sheet, &rules, room, marks),
             Case::Replay {
                 edition,
                 sheet,
@@ -46,16 +47,10 @@ pub fn gather(seed: u64, count: u64, size: Size) -> Stats {
 }
 
 impl Stats {
-    fn count_press(
-        &mut self,
-        edition: Edition,
-        sheet: &[u8],
-        rules: &[u8],
-        room: usize,
-        marks: usize,
-    ) {
+    fn count_press(&mut self, plan: Plan, sheet: &[u8], rules: &[u8], room: usize, marks: usize) {
+        let edition = plan.edition;
         let (mut out, mut marks) = (vec![0; room], vec![0; marks]);
-        match press(edition, sheet, rules, &mut out, &mut marks) {
+        match press(plan, sheet, rules, &mut out, &mut marks) {
             Err(refusal) => {
                 *self.press.entry((edition, refusal.number)).or_default() += 1;
                 if refusal.number > 5 {
@@ -65,9 +60,12 @@ impl Stats {
             Ok(_) => {
                 *self.press.entry((edition, ACCEPTED)).or_default() += 1;
                 let proof = read_proof(edition, sheet, rules).expect("it was accepted");
-                let passes = run_passes(proof);
-                self.count_events(&pass_events(&passes));
-                self.count_events(&high_events(&passes));
+                let by = |recycling| run_passes(Plan { recycling, ..plan }, proof.clone());
+                let both = Recycling::ALL.map(by);
+                let passes = &both[usize::from(plan.recycling.number())];
+                self.count_events(&pass_events(plan, passes));
+                self.count_events(&high_events(passes));
+                self.count_events(&parting_events(&both));
                 self.count_events(&size_events(edition, sheet, rules, room));
             }
         }

@@ -1,23 +1,25 @@
 //! Cases as a stream of bytes, and what a program that runs them prints.
 //!
-//! A case is fourteen bytes, then its sheet and its rule table. Byte 0 says what
+//! A case is fifteen bytes, then its sheet and its rule table. Byte 0 says what
 //! is run: 0 the press, 1 the replay, 2 the replay shown record by record. Byte
-//! 1 is the edition: 0 narrow, 1 wide. Then come six numbers of two bytes,
+//! 1 is the edition: 0 narrow, 1 wide. Byte 2 is a press's recycling: 0 reset, 1
+//! intersection; of a replay it is 0. Then come six numbers of two bytes,
 //! little-endian: bytes of the sheet, bytes of the rule table, bytes of room or
 //! the number of slots, bytes of marks or zero; and how many bytes of the sheet
 //! and of the rule table follow. The rest of each is zero, so that long ones
 //! need few bytes.
 //!
-//! What is printed is, for each case, its number, its edition and the first four
-//! numbers, and then the answer's line (`text`). After a press come the output and the
-//! marks, if it is accepted, and whether all that they may not touch is
-//! untouched. Of a replay that is shown, each record has a line: `taken` or
+//! What is printed is, for each case, its number, its edition, what is run, a
+//! press's recycling and the first four numbers, and then the answer's line
+//! (`text`). After a press come the output and the marks, if it is accepted, and
+//! whether all that they may not touch is untouched. Of a replay that is shown, each record has a line: `taken` or
 //! `refused <number> <record>`, and the tally and the slots then. After a
 //! refused record there is none.
 
 use crate::cases::{draw, Case, Size};
 use crate::edition::Edition;
 use crate::lengths::check_inputs;
+use crate::plan::Plan;
 use crate::press::press;
 use crate::replay::{replay, step, Slot, Tally};
 use crate::text::{hex, pressed_line, refused, replayed_line, trace_line};
@@ -86,11 +88,6 @@ fn fits(case: &Case) -> bool {
     inputs && room <= most_room() && marks <= most_marks()
 }
 
-fn edition(case: &Case) -> Edition {
-    let (Case::Press { edition, .. } | Case::Replay { edition, .. }) = case;
-    *edition
-}
-
 /// Sheet, rule table, room or slots, marks or zero.
 fn parts(case: &Case) -> (&[u8], &[u8], usize, usize) {
     match case {
@@ -118,12 +115,12 @@ fn stored(bytes: &[u8]) -> &[u8] {
 
 fn bytes(entry: &Entry) -> Vec<u8> {
     let (sheet, rules, room, marks) = parts(&entry.case);
-    let kind = match (&entry.case, entry.shown) {
-        (Case::Press { .. }, _) => 0,
-        (Case::Replay { .. }, false) => 1,
-        (Case::Replay { .. }, true) => 2,
+    let (kind, recycling) = match (&entry.case, entry.shown) {
+        (Case::Press { plan, .. }, _) => (0, plan.recycling.number()),
+        (Case::Replay { .. }, false) => (1, 0),
+        (Case::Replay { .. }, true) => (2, 0),
     };
-    let mut bytes = vec![kind, edition(&entry.case).number()];
+    let mut bytes = vec![kind, entry.case.edition().number(), recycling];
     let (sheet_stored, rules_stored) = (stored(sheet), stored(rules));
     let lengths = [sheet.len(), rules.len(), room, marks];
     for number in [&lengths[..], &[sheet_stored.len(), rules_stored.len()]].concat() {
@@ -137,23 +134,26 @@ fn bytes(entry: &Entry) -> Vec<u8> {
 
 fn printed(number: usize, entry: &Entry) -> String {
     let (sheet, rules, room, marks) = parts(&entry.case);
-    let edition = edition(&entry.case);
-    let (word, answer) = match entry.case {
-        Case::Press { .. } => ("press", pressed(edition, sheet, rules, room, marks)),
-        Case::Replay { .. } => {
+    let (run, answer) = match entry.case {
+        Case::Press { plan, .. } => {
+            let run = format!("press {}", plan.recycling.word());
+            (run, pressed(plan, sheet, rules, room, marks))
+        }
+        Case::Replay { edition, .. } => {
             let answer = replayed(edition, sheet, rules, room, entry.shown);
-            ("replay", answer)
+            ("replay".to_string(), answer)
         }
     };
     let lengths = format!("{} {} {room} {marks}", sheet.len(), rules.len());
-    let edition = edition.word();
-    format!("case {number} {edition} {word} {lengths}\n{answer}")
+    let edition = entry.case.edition().word();
+    format!("case {number} {edition} {run} {lengths}\n{answer}")
 }
 
-fn pressed(edition: Edition, sheet: &[u8], rules: &[u8], room: usize, marks: usize) -> String {
+fn pressed(plan: Plan, sheet: &[u8], rules: &[u8], room: usize, marks: usize) -> String {
+    let edition = plan.edition;
     let mut out = vec![OLD; room];
     let mut marks = vec![OLD; marks];
-    let (answer, records, lines) = match press(edition, sheet, rules, &mut out, &mut marks) {
+    let (answer, records, lines) = match press(plan, sheet, rules, &mut out, &mut marks) {
         Err(refusal) => (refused(&refusal), 0, 0),
         Ok(pressed) => {
             let records = pressed.records * edition.record_bytes();

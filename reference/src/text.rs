@@ -1,12 +1,13 @@
 //! Cases and their answers as lines of text.
 //!
 //! Each case is a block of lines that ends with an empty line. Words are
-//! separated by single spaces. An edition is `narrow` or `wide`. Byte strings are lower-case hex, `-` if empty;
+//! separated by single spaces. An edition is `narrow` or `wide`, a recycling
+//! `reset` or `intersection`. Byte strings are lower-case hex, `-` if empty;
 //! sets are numbers whose bit v is variable v, of 16 hex digits, or 32 in the
 //! wide edition; all else is decimal.
 //!
 //! ```text
-//! press <edition> <sheet> <rules> <bytes of room> <bytes of marks>
+//! press <edition> <recycling> <sheet> <rules> <bytes of room> <bytes of marks>
 //! = ok <positive> <negative> records R nodes N steps S peak P marked M
 //! out <the emitted records>
 //! marks <one byte for each rule line>
@@ -23,6 +24,7 @@
 
 use crate::cases::Case;
 use crate::edition::Edition;
+use crate::plan::Plan;
 use crate::press::{press, Pressed};
 use crate::refusal::Refusal;
 use crate::replay::{replay_watched, Replayed, Slot, Tally};
@@ -31,12 +33,12 @@ use crate::replay::{replay_watched, Replayed, Slot, Tally};
 pub fn block(case: &Case, with_trace: bool) -> String {
     match case {
         Case::Press {
-            edition,
+            plan,
             sheet,
             rules,
             room,
             marks,
-        } => press_block(*edition, sheet, rules, *room, *marks),
+        } => press_block(*plan, sheet, rules, *room, *marks),
         Case::Replay {
             edition,
             sheet,
@@ -46,13 +48,18 @@ pub fn block(case: &Case, with_trace: bool) -> String {
     }
 }
 
-fn press_block(edition: Edition, sheet: &[u8], rules: &[u8], room: usize, marks: usize) -> String {
-    let inputs = format!("{} {} {}", edition.word(), hex(sheet), hex(rules));
-    let question = format!("press {inputs} {room} {marks}\n");
+fn press_block(plan: Plan, sheet: &[u8], rules: &[u8], room: usize, marks: usize) -> String {
+    let edition = plan.edition;
+    let told = format!("{} {}", edition.word(), plan.recycling.word());
+    let question = format!(
+        "press {told} {} {} {room} {marks}\n",
+        hex(sheet),
+        hex(rules)
+    );
     let mut out = vec![0; room];
     let mut marks = vec![0; marks];
     question
-        + &match press(edition, sheet, rules, &mut out, &mut marks) {
+        + &match press(plan, sheet, rules, &mut out, &mut marks) {
             Err(refusal) => refused(&refusal),
             Ok(pressed) => {
                 out.truncate(pressed.records * edition.record_bytes());

@@ -8,10 +8,18 @@ use reference::sheets::{rules, sheet};
 
 type Answer = Result<(u128, u128), (u32, usize)>;
 
+/// The program's passes, in this edition.
+fn plan(edition: Edition) -> Plan {
+    Plan {
+        edition,
+        ..Plan::PROGRAM
+    }
+}
+
 /// What the press answers with ample room, and the replay with ample slots.
 fn answers(edition: Edition, sheet: &[u8], rules: &[u8]) -> [Answer; 2] {
     let (mut out, mut marks) = (vec![0; 2 * sheet.len() + 48], vec![0; 2000]);
-    let pressed = reference::press::press(edition, sheet, rules, &mut out, &mut marks);
+    let pressed = reference::press::press(plan(edition), sheet, rules, &mut out, &mut marks);
     let pressed = pressed.map(|done| (done.positive, done.negative));
     let replayed = replay_traced_in(edition, sheet, rules, 2000).0;
     [
@@ -97,14 +105,15 @@ fn irregular_loses_two_steps_over_63_too() {
 fn both_editions_press_alike() {
     let told = [mirrored(), shared_reset(), second_trim(), places()];
     for worked in starred_and(&told) {
-        let records = worked.pressed();
         let wide = worked.clone().in_edition(Wide);
-        assert_eq!(wide.pressed(), records);
-        let (input, table) = wide.bytes();
-        let done = press_ok_in(Wide, &input, &table);
-        assert_eq!(done.out, sheet(Wide, &records.unwrap()));
-        let narrow = press_ok(&worked.sheet(), &worked.table());
-        assert_eq!((done.pressed, done.core), (narrow.pressed, narrow.core));
+        for recycling in Recycling::ALL {
+            let records = worked.pressed(recycling);
+            assert_eq!(wide.pressed(recycling), records);
+            let done = press_worked(recycling, &wide);
+            assert_eq!(done.out, sheet(Wide, &records.unwrap()));
+            let narrow = press_worked(recycling, &worked);
+            assert_eq!((done.pressed, done.core), (narrow.pressed, narrow.core));
+        }
     }
 }
 
@@ -131,7 +140,7 @@ fn wide_room_and_marks() {
         let lines = rules.len() / 32;
         let needed = 80 * (sheet.len() / 40) - 40;
         let (mut out, mut marks) = (vec![0; needed], vec![0; lines]);
-        assert!(reference::press::press(Wide, &sheet, &rules, &mut out, &mut marks).is_ok());
+        assert!(reference::press::press(plan(Wide), &sheet, &rules, &mut out, &mut marks).is_ok());
         for lent in [(needed - 1, lines), (needed, lines - 1)] {
             let refused = press_refused_in(Wide, &sheet, &rules, Some(lent));
             assert_eq!(refused, (5, 0));

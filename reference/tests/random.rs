@@ -12,13 +12,14 @@ use reference::stats::gather;
 const CASES: u64 = 1500;
 
 /// What an accepted press promises, checked with the replay.
-fn check_press(edition: Edition, sheet: &[u8], rules: &[u8], room: usize, marks: usize) {
+fn check_press(plan: Plan, sheet: &[u8], rules: &[u8], room: usize, marks: usize) {
+    let edition = plan.edition;
     let (mut out, mut marks) = (vec![OLD; room], vec![OLD; marks]);
-    let Ok(pressed) = press(edition, sheet, rules, &mut out, &mut marks) else {
+    let Ok(pressed) = press(plan, sheet, rules, &mut out, &mut marks) else {
         assert!(out.iter().chain(&marks).all(|&byte| byte == OLD));
         return;
     };
-    let done = press_ok_in(edition, sheet, rules);
+    let done = press_ok_by(plan, sheet, rules);
     assert_eq!(done.pressed, pressed);
     let expected = Replayed {
         positive: pressed.positive,
@@ -88,12 +89,12 @@ fn check_cases(seed: u64, size: Size) {
     for index in 0..CASES {
         match draw(seed, index, size) {
             Case::Press {
-                edition,
+                plan,
                 sheet,
                 rules,
                 room,
                 marks,
-            } => check_press(edition, &sheet, &rules, room, marks),
+            } => check_press(plan, &sheet, &rules, room, marks),
             Case::Replay {
                 edition,
                 sheet,
@@ -116,7 +117,7 @@ fn large_cases_hold_what_is_promised() {
 
 #[test]
 fn every_refusal_number_occurs() {
-    assert_eq!(gather(13, 6000, Size::Any).missing(), Vec::<String>::new());
+    assert_eq!(gather(14, 6000, Size::Any).missing(), Vec::<String>::new());
 }
 
 #[test]
@@ -130,16 +131,20 @@ fn small_cases_are_small() {
     }
 }
 
-/// About a third of the cases name the wide edition.
+/// About a third of the cases name the wide edition, and about half of the
+/// presses the intersection.
 #[test]
-fn cases_are_of_both_editions() {
-    let is_wide = |index: &u64| {
-        let (Case::Press { edition, .. } | Case::Replay { edition, .. }) =
-            draw(15, *index, Size::Small);
-        edition == Wide
-    };
-    let wide = (0..CASES).filter(is_wide).count() as u64;
-    assert!((CASES * 30 / 100..CASES * 37 / 100).contains(&wide));
+fn cases_are_of_both_editions_and_recyclings() {
+    let cases: Vec<Case> = (0..CASES).map(|n| draw(15, n, Size::Small)).collect();
+    let wide = cases.iter().filter(|case| case.edition() == Wide).count();
+    assert!((cases.len() * 30 / 100..cases.len() * 37 / 100).contains(&wide));
+    let plans = cases.iter().filter_map(|case| match case {
+        Case::Press { plan, .. } => Some(plan.recycling),
+        Case::Replay { .. } => None,
+    });
+    let recyclings: Vec<Recycling> = plans.collect();
+    let new = recyclings.iter().filter(|&&of| of == Intersection).count();
+    assert!((recyclings.len() * 45 / 100..recyclings.len() * 55 / 100).contains(&new));
 }
 
 #[test]

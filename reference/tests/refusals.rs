@@ -128,7 +128,9 @@ fn a_derived_clause_may_hold_a_variable_both_ways() {
             Record::Drop { .. } => false,
         };
         assert!(worked.records.iter().any(holds));
-        assert_eq!(press_ok(&sheet, &rules).pressed.positive, 1);
+        for recycling in Recycling::ALL {
+            assert_eq!(press_worked(recycling, &worked).pressed.positive, 1);
+        }
         assert!(replay_answer(&sheet, &rules, 7).is_ok());
     }
 }

@@ -211,7 +211,8 @@ fn forward_is_9() {
 fn room_for_three_records() {
     let (sheet, rules) = pair().bytes();
     let mut marks = [0; 2];
-    let accepted = reference::press::press(Narrow, &sheet, &rules, &mut [0; 120], &mut marks);
+    let plan = Plan::PROGRAM;
+    let accepted = reference::press::press(plan, &sheet, &rules, &mut [0; 120], &mut marks);
     assert!(accepted.is_ok());
     assert_eq!(press_refused_with(&sheet, &rules, 119, 2), (5, 0));
     assert_eq!(press_refused_with(&sheet, &rules, 120, 1), (5, 0));

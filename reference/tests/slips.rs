@@ -11,8 +11,9 @@ use reference::press::Passes;
 use reference::proof::{Node, Proof};
 use reference::record::Record;
 
+/// By the recycling of document 01.
 fn passes_of(worked: &Worked) -> Passes {
-    passes(&worked.sheet(), &worked.table())
+    passes_by(Reset, worked)
 }
 
 #[test]
@@ -20,7 +21,7 @@ fn the_kept_side_of_a_cut() {
     let (sheet, rules) = irregular().bytes();
     let done = press_ok(&sheet, &rules);
     assert_eq!((done.pressed.positive, done.pressed.negative), (0, 0));
-    let passes = passes(&sheet, &rules);
+    let passes = passes_of(&irregular());
     assert_eq!(passes.visits[&2].cut, Some(Edge::Right));
     assert_eq!(passes.visits[&2].s, clause("+0 +1 +2"));
     assert_eq!(passes.rebuilt.stand_ins[&2], 0);
@@ -51,7 +52,7 @@ fn a_left_edge_cut() {
 #[test]
 fn s_is_not_carried_into_a_node_used_twice() {
     let (input, table) = shared_reset().bytes();
-    let passes = passes(&input, &table);
+    let passes = passes_of(&shared_reset());
     assert!(passes.visits.values().all(|visit| visit.cut.is_none()));
     assert!(passes.visits[&2].s.is_empty());
     let done = press_ok(&input, &table);
@@ -61,8 +62,7 @@ fn s_is_not_carried_into_a_node_used_twice() {
 
 #[test]
 fn no_step_is_rebuilt_without_its_pivot() {
-    let (sheet, rules) = irregular().bytes();
-    let passes = passes(&sheet, &rules);
+    let passes = passes_of(&irregular());
     assert_eq!(passes.rebuilt.why[&8], Why::LeftLacksPivot);
     assert_eq!(passes.rebuilt.stand_ins[&8], 6);
 }
@@ -94,7 +94,7 @@ fn cuts_do_not_lower_uses() {
 #[test]
 fn a_twice_named_parent_is_dropped_once() {
     let again = twice_again();
-    let done = press_ok(&again.sheet(), &again.table());
+    let done = press_worked(Reset, &again);
     let mut expected = again.records[..4].to_vec();
     expected.splice(3..3, [dropped(0), dropped(1)]);
     expected.push(dropped(2));

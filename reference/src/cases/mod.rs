@@ -9,8 +9,11 @@ pub mod forward;
 pub mod press_cases;
 pub mod replay_cases;
 pub mod shapes;
+pub mod stages;
+pub mod woven;
 
 use crate::edition::Edition;
+use crate::plan::Plan;
 use crate::rng::Rng;
 
 /// The arguments of one call. `room` and `marks` are lengths in bytes, `slots`
@@ -18,7 +21,7 @@ use crate::rng::Rng;
 #[derive(Clone, Debug, PartialEq, Eq)]
 pub enum Case {
     Press {
-        edition: Edition,
+        plan: Plan,
         sheet: Vec<u8>,
         rules: Vec<u8>,
         room: usize,
@@ -30,6 +33,15 @@ pub enum Case {
         rules: Vec<u8>,
         slots: usize,
     },
+}
+
+impl Case {
+    pub fn edition(&self) -> Edition {
+        match self {
+            Case::Press { plan, .. } => plan.edition,
+            Case::Replay { edition, .. } => *edition,
+        }
+    }
 }
 
 /// Small cases stay within about 16 records, for a slow evaluator; they can't
@@ -68,7 +80,10 @@ pub fn draw(seed: u64, index: u64, size: Size) -> Case {
     };
     let mut case = draw_with(&mut rng, made_for, size);
     if rng.chance(2) {
-        let (Case::Press { edition, .. } | Case::Replay { edition, .. }) = &mut case;
+        let edition = match &mut case {
+            Case::Press { plan, .. } => &mut plan.edition,
+            Case::Replay { edition, .. } => edition,
+        };
         *edition = made_for.other();
     }
     case

@@ -3,6 +3,7 @@
 use crate::cases::damage::{noise, spoil_length, spoil_records, spoil_rule_table, stir_records};
 use crate::cases::{shapes, Case, Size};
 use crate::edition::Edition;
+use crate::plan::{Plan, Recycling};
 use crate::rng::Rng;
 
 const SMALL_NODES: usize = 16;
@@ -30,8 +31,9 @@ pub fn draw(rng: &mut Rng, edition: Edition, size: Size) -> Case {
         spoil_length(rng, edition, edition.press_records(), &mut sheet, small);
     }
     let (room, marks) = draw_room(rng, edition, sheet.len(), rules.len());
+    let recycling = rng.pick(&Recycling::ALL);
     Case::Press {
-        edition,
+        plan: Plan { edition, recycling },
         sheet,
         rules,
         room,

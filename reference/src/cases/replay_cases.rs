@@ -5,6 +5,7 @@ use crate::cases::draft::Draft;
 use crate::cases::drop_damage::spoil_drops;
 use crate::cases::{shapes, Case, Size};
 use crate::edition::Edition;
+use crate::plan::Plan;
 use crate::press::{read_proof, run_passes};
 use crate::record::Record;
 use crate::replay::{replay_watched, Slot};
@@ -46,13 +47,17 @@ pub fn draw(rng: &mut Rng, edition: Edition, size: Size) -> Case {
     }
 }
 
-/// A pressed sheet, if the press takes the draft, a sheet without drops, or a
+/// A pressed sheet, by the program's passes, if the press takes the draft, a sheet without drops, or a
 /// sheet whose nodes are dropped some time after their last use.
 fn base_sheet(rng: &mut Rng, edition: Edition, draft: &Draft) -> Vec<u8> {
     let proof = read_proof(edition, &draft.sheet(edition), &draft.rule_table(edition));
     match (rng.below(10), proof) {
         (0..=5, Ok(proof)) => {
-            let records = run_passes(proof).records;
+            let plan = Plan {
+                edition,
+                ..Plan::PROGRAM
+            };
+            let records = run_passes(plan, proof).records;
             records.iter().flat_map(|r| r.write(edition)).collect()
         }
         (6, _) => draft.sheet(edition),

@@ -4,6 +4,7 @@ use crate::cases::backward::backward;
 use crate::cases::dense::{lattice, tower};
 use crate::cases::draft::Draft;
 use crate::cases::forward::forward;
+use crate::cases::woven::woven;
 use crate::clause::{Clause, Literal};
 use crate::edition::Edition;
 use crate::rng::Rng;
@@ -24,7 +25,8 @@ fn valid(rng: &mut Rng, edition: Edition, size: usize) -> Draft {
     let shape = if depth_wanted { 19 } else { rng.below(20) };
     let mut draft = match shape {
         0..=5 => forward(rng, edition, &variables, size),
-        6..=14 => backward(rng, edition, &variables, size),
+        6..=11 => backward(rng, edition, &variables, size),
+        12..=14 => woven(rng, edition, &variables, size),
         15..=18 => lattice(rng, edition, size),
         _ => tower(rng, edition, &variables, size),
     };

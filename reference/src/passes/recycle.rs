@@ -1,4 +1,5 @@
 use crate::clause::{Clause, Literal};
+use crate::plan::Recycling;
 use crate::proof::{Node, Proof};
 use std::collections::BTreeMap;
 
@@ -19,29 +20,46 @@ pub struct Visit {
 pub type Visits = BTreeMap<usize, Visit>;
 
 /// "From the sink down by number, each reached node has a set S. The sink is
-/// reached, and so is each parent on an uncut edge of a reached step. [...] A
-/// node with two or more uses has S empty. Otherwise S comes from its only
-/// use." Document 02 (v): "From now on the sink's S is its clause."
-pub fn recycle(trimmed: &Proof) -> Visits {
+/// reached, and so is each parent on an uncut edge of a reached step." Document
+/// 02 (v): "From now on the sink's S is its clause."
+pub fn recycle(trimmed: &Proof, recycling: Recycling) -> Visits {
     let uses = trimmed.uses();
-    let own = trimmed.nodes[&trimmed.sink].clause().clone();
-    let mut handed = BTreeMap::from([(trimmed.sink, own)]);
+    // For each node that is reached: what each edge hands it. Parents have
+    // smaller numbers, so all of it is there when the node's turn comes.
+    let mut handed = BTreeMap::from([(trimmed.sink, vec![trimmed.conclusion().clone()])]);
     let mut visits = Visits::new();
     for (&number, node) in trimmed.nodes.iter().rev() {
-        let Some(only) = handed.remove(&number) else {
+        let Some(sets) = handed.remove(&number) else {
             continue;
         };
-        let s = if uses[&number] >= 2 {
-            Clause::default()
-        } else {
-            only
+        let s = match recycling {
+            Recycling::Reset => reset(uses[&number], &sets),
+            Recycling::Intersection => intersection(&sets),
         };
         let cut = cut(node, &s);
         let visit = Visit { s, cut };
-        handed.extend(uncut_edges(node, &visit));
+        for (parent, set) in uncut_edges(node, &visit) {
+            handed.entry(parent).or_default().push(set);
+        }
         visits.insert(number, visit);
     }
     visits
+}
+
+/// "A node with two or more uses has S empty. Otherwise S comes from its only
+/// use."
+fn reset(uses: usize, handed: &[Clause]) -> Clause {
+    match (uses, handed) {
+        (0 | 1, [only]) => only.clone(),
+        _ => Clause::default(),
+    }
+}
+
+/// "a node's S is the intersection over all its uncut edges from reached steps of
+/// what each would hand it."
+fn intersection(handed: &[Clause]) -> Clause {
+    let common = handed.iter().cloned().reduce(|s, set| s.common(&set));
+    common.expect("a reached node is handed a set")
 }
 
 /// "At a step with pivot p: if -p is in S, the left edge is cut [...]; else if

@@ -1,15 +1,19 @@
 //! Sheets written by hand, each once: clauses and records in short words, the
-//! sheets of document 01 (`starred`) and sheets for sentences that those do not
-//! tell apart (`telling`), and sheets of the wide edition (`wide`). The tests, the streams of cases, the tables of the
-//! definitions (`tables`), the tests of the built program and the harness all
-//! take them from here.
+//! sheets of document 01 (`starred`), sheets for sentences that those do not
+//! tell apart (`telling`), sheets that tell the recyclings from each other and
+//! from wrong ones (`recycling`), and sheets of the wide edition (`wide`). The
+//! tests, the streams of cases, the tables of the definitions (`tables`), the
+//! tests of the built program and the harness all take them from here.
 
+pub mod recycling;
 pub mod starred;
 pub mod telling;
 pub mod wide;
 
+use crate::cases::stages::{stages, Givens};
 use crate::clause::{Clause, Literal};
 use crate::edition::Edition;
+use crate::plan::{Plan, Recycling};
 use crate::press::{read_proof, run_passes};
 use crate::proof::Node;
 use crate::record::Record;
@@ -95,24 +99,32 @@ impl Worked {
         (self.sheet(), self.table())
     }
 
+    pub fn plan(&self, recycling: Recycling) -> Plan {
+        let edition = self.edition;
+        Plan { edition, recycling }
+    }
+
     /// What the press writes, if the sheet is good.
-    pub fn pressed(&self) -> Option<Vec<Record>> {
+    pub fn pressed(&self, recycling: Recycling) -> Option<Vec<Record>> {
         let proof = read_proof(self.edition, &self.sheet(), &self.table()).ok()?;
-        Some(run_passes(proof).records)
+        Some(run_passes(self.plan(recycling), proof).records)
     }
 }
 
-/// Sheets of document 01 that the press takes, a line each: name, rule table,
-/// sheet and what is written of it, as hex.
+/// Sheets of document 01 that the press takes, and one that is placed deep with
+/// as many records as nearly may be, a line each: name, rule table, sheet and
+/// what the program writes of it, as hex.
 pub fn listing() -> String {
-    let line = |worked: &Worked| {
-        let out = sheet(
-            worked.edition,
-            &worked.pressed().expect("the press takes it"),
-        );
-        let words = [worked.table(), worked.sheet(), out].map(|bytes| hex(&bytes));
-        format!("{} {}\n", worked.name, words.join(" "))
+    let edition = Plan::PROGRAM.edition;
+    let worked = |worked: Worked| (worked.name, worked.sheet(), worked.table());
+    let deep = stages(edition, edition.press_records(), Givens::Shared);
+    let deep = ("deep", deep.sheet(edition), deep.rule_table(edition));
+    let line = |(name, input, rules): (&str, Vec<u8>, Vec<u8>)| {
+        let proof = read_proof(edition, &input, &rules).expect("the press takes it");
+        let out = sheet(edition, &run_passes(Plan::PROGRAM, proof).records);
+        let words = [rules, input, out].map(|bytes| hex(&bytes));
+        format!("{name} {}\n", words.join(" "))
     };
-    let deep = [starred::deep()];
-    starred::pressable().iter().chain(&deep).map(line).collect()
+    let short = starred::pressable().into_iter().map(worked);
+    short.chain([deep]).map(line).collect()
 }

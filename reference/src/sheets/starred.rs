@@ -1,7 +1,6 @@
 //! "Sheets to try", in the words of document 01.
 
 use super::{dropped, given, step, Worked};
-use crate::edition::Edition;
 
 pub fn lone() -> Worked {
     Worked::new("lone", &["+0"], &[given(0, "+0")])
@@ -78,17 +77,6 @@ fn pair_on_63(name: &'static str, pivot: u8) -> Worked {
 pub fn forward() -> Worked {
     let records = [given(0, "+0"), given(1, "-0"), step(0, 2, 1, "")];
     Worked::new("forward", &["+0", "-0"], &records)
-}
-
-/// Two givens make {+0,-0}, and then steps each name the node before on both
-/// sides: as many records as may be, of which the last is cut, and the placing
-/// goes 1,022 deep.
-pub fn deep() -> Worked {
-    let mut records = vec![given(0, "+0 +1"), given(1, "-0 -1")];
-    records.push(step(1, 0, 1, "+0 -0"));
-    let most = Edition::Narrow.press_records();
-    records.extend((2..most - 1).map(|node| step(0, node, node, "+0 -0")));
-    Worked::new("deep", &["+0 +1", "-0 -1"], &records)
 }
 
 /// Those that the press takes, and that are short.

@@ -100,7 +100,8 @@ pub fn second_trim() -> Worked {
 }
 
 /// Node 2 is used by two steps on different sides of pivot 0: a set carried
-/// into it would cut it.
+/// into it would cut it, and so would what the two hand over joined, or one of
+/// the two.
 pub fn shared_reset() -> Worked {
     let records = [
         given(0, "+0 +1"),

@@ -2,23 +2,85 @@
 
 use super::terms::{bytes_term, edition, list, set};
 use crate::edition::Edition;
+use crate::plan::Recycling;
 use crate::press::press;
+use crate::record::Record;
 use crate::refusal::Refusal;
 use crate::replay::{replay, Slot};
 use crate::sheets::{sheet, Worked};
 
 const OLD: u8 = 170;
 
-/// The press with as much room and marks as it needs, and what it then says.
-fn pressed(worked: &Worked) -> (Result<Vec<String>, Refusal>, Vec<u8>) {
+/// The recyclings that a case is of: either, which is the table's parameter, or
+/// one by name.
+#[derive(Clone, Copy)]
+pub(super) enum How {
+    Either,
+    By(Recycling),
+}
+
+use How::{By, Either};
+
+impl How {
+    /// What this program makes of it, which is the same for each of them.
+    fn made<T: PartialEq>(self, make: impl Fn(Recycling) -> T) -> T {
+        let recyclings = match self {
+            Either => Recycling::ALL.to_vec(),
+            By(one) => vec![one],
+        };
+        let mut made = recyclings.into_iter().map(make);
+        let first = made.next().expect("there is a recycling");
+        assert!(made.all(|other| other == first), "the recyclings part here");
+        first
+    }
+
+    fn plan(self, worked: &Worked) -> String {
+        let how = match self {
+            Either => "how",
+            By(Recycling::Reset) => "Reset",
+            By(Recycling::Intersection) => "Intersection",
+        };
+        format!("(plan {} {how})", edition(worked.edition))
+    }
+
+    /// The name of what the press writes of a sheet.
+    pub(super) fn pressed_name(self, worked: &Worked) -> String {
+        let how = match self {
+            Either => "Pressed",
+            By(Recycling::Reset) => "Reset",
+            By(Recycling::Intersection) => "Intersected",
+        };
+        format!("{}{how}", worked.name)
+    }
+
+    pub(super) fn pressed(self, worked: &Worked) -> Option<Vec<Record>> {
+        self.made(|recycling| worked.pressed(recycling))
+    }
+}
+
+/// What the press says with this room and these marks, and the marks then.
+fn pressing(
+    how: How,
+    worked: &Worked,
+    room: usize,
+    marks: usize,
+) -> (Result<Vec<String>, Refusal>, Vec<u8>) {
     let (sheet, rules) = worked.bytes();
-    let mut out = vec![OLD; worked.edition.room(worked.records.len())];
-    let mut marks = vec![OLD; worked.rules.len()];
-    let said = press(worked.edition, &sheet, &rules, &mut out, &mut marks).map(|p| {
-        let counts = [p.records, p.nodes, p.steps, p.peak, p.marked];
-        said(p.positive, p.negative, &counts)
-    });
-    (said, marks)
+    how.made(|recycling| {
+        let (mut out, mut marks) = (vec![OLD; room], vec![OLD; marks]);
+        let plan = worked.plan(recycling);
+        let said = press(plan, &sheet, &rules, &mut out, &mut marks).map(|p| {
+            let counts = [p.records, p.nodes, p.steps, p.peak, p.marked];
+            said(p.positive, p.negative, &counts)
+        });
+        (said, marks)
+    })
+}
+
+/// With as much room and marks as it needs.
+fn pressing_in_room(how: How, worked: &Worked) -> (Result<Vec<String>, Refusal>, Vec<u8>) {
+    let room = worked.edition.room(worked.records.len());
+    pressing(how, worked, room, worked.rules.len())
 }
 
 fn said(positive: u128, negative: u128, counts: &[usize]) -> Vec<String> {
@@ -29,42 +91,43 @@ fn said(positive: u128, negative: u128, counts: &[usize]) -> Vec<String> {
         .collect()
 }
 
-pub(super) fn accepts(worked: &Worked) -> String {
-    let (name, of) = (worked.name, edition(worked.edition));
-    let (said, marks) = pressed(worked);
+pub(super) fn accepts(how: How, worked: &Worked) -> String {
+    let (name, plan) = (worked.name, how.plan(worked));
+    let (said, marks) = pressing_in_room(how, worked);
     let said = list(&said.expect("the press takes it"));
-    let bytes = pressed_term(worked);
-    format!(
-        "accepts {of} {name}Rules {name} ({said}) {bytes} ({})",
-        list(&marks)
-    )
+    let bytes = pressed_term(how, worked);
+    let marks = list(&marks);
+    format!("accepts {plan} {name}Rules {name} ({said}) {bytes} ({marks})")
 }
 
 /// What the press writes. That of *pair* stands as bytes, the others as records.
-fn pressed_term(worked: &Worked) -> String {
-    let (name, of) = (worked.name, edition(worked.edition));
-    match name {
-        "pair" => "pairPressed".to_string(),
-        _ => format!("(sheetBytes {of} {name}Pressed)"),
+fn pressed_term(how: How, worked: &Worked) -> String {
+    let (name, of) = (how.pressed_name(worked), edition(worked.edition));
+    match worked.name {
+        "pair" => name,
+        _ => format!("(sheetBytes {of} {name})"),
     }
 }
 
 pub(super) fn refuses(worked: &Worked, rules: &str) -> String {
-    let why = pressed(worked).0.expect_err("the press refuses it");
-    let (name, of) = (worked.name, edition(worked.edition));
-    format!("refuses {of} {rules} {name} {} {}", why.number, why.record)
+    let refused = pressing_in_room(Either, worked).0;
+    let why = refused.expect_err("the press refuses it");
+    let (name, plan) = (worked.name, Either.plan(worked));
+    format!(
+        "refuses {plan} {rules} {name} {} {}",
+        why.number, why.record
+    )
 }
 
 /// A press that is refused, with this room and these marks.
 pub(super) fn presses(worked: &Worked, rules: &str, room: usize, marks: usize) -> String {
-    let (sheet, table) = worked.bytes();
-    let (mut out, mut marked) = (vec![OLD; room], vec![OLD; marks]);
-    let refused = press(worked.edition, &sheet, &table, &mut out, &mut marked);
+    let refused = pressing(Either, worked, room, marks).0;
     let why = refused.expect_err("the press refuses it");
     let said = list(&[why.number as usize, why.record]);
     let (bytes, of) = (bytes_term(worked), edition(worked.edition));
+    let plan = Either.plan(worked);
     let inputs = format!("{bytes} (ruleTable {of} {rules})");
-    format!("presses {of} {inputs} {room} {marks} ({said}) (junk {room}) (junk {marks})")
+    format!("presses {plan} {inputs} {room} {marks} ({said}) (junk {room}) (junk {marks})")
 }
 
 pub(super) fn replays(worked: &Worked, rules: &str, slots: usize) -> String {
@@ -75,9 +138,9 @@ pub(super) fn replays(worked: &Worked, rules: &str, slots: usize) -> String {
 
 pub(super) fn replays_pressed(worked: &Worked, slots: usize) -> String {
     let of = worked.edition;
-    let out = sheet(of, &worked.pressed().expect("the press takes it"));
+    let out = sheet(of, &Either.pressed(worked).expect("the press takes it"));
     let said = replayed(of, &(out, worked.table()), slots);
-    let (name, bytes) = (worked.name, pressed_term(worked));
+    let (name, bytes) = (worked.name, pressed_term(Either, worked));
     format!(
         "replayed {} {bytes} {name}Rules {slots} ({said})",
         edition(of)

@@ -6,12 +6,15 @@ mod cases;
 mod terms;
 
 use crate::edition::Edition::Wide;
+use crate::plan::Recycling;
+use crate::sheets::recycling::*;
 use crate::sheets::starred::*;
 use crate::sheets::telling::*;
 use crate::sheets::wide::*;
 use crate::sheets::{sheet, Worked};
+use cases::How::{self, By, Either};
 use cases::{accepts, presses, refuses, replays, replays_other, replays_pressed};
-use terms::{bytes_of, define, literals_of, record, records_of, rules_of, table};
+use terms::{bytes_of, define, literals_of, record, records_of, rules_of, table, table_by_either};
 
 const STARRED: &str = r#"-- "Starred sheets are one table under a single proved statement." Made by the second program: `reference tables`.
 use Prim.Native.Nat.{ℕ, _^_}
@@ -22,6 +25,8 @@ use Rattle.clause.specs.Clauses.{Literals, literals}
 use Rattle.sheet.specs.declared.edition.Edition.the-variants.{Narrow}
 use Rattle.sheet.specs.Records.{given, step, Record, node, drop}
 use Rattle.sheet.specs.Fields.{sheetBytes}
+use Rattle.press_spec.specs.declared.Recycling.{Recycling}
+use Rattle.press_spec.specs.Plans.{plan}
 use Rattle.demands.specs.Cases.{Case, accepts, refuses, replayed, allRight}
 "#;
 
@@ -33,6 +38,8 @@ use Rattle.clause.specs.Clauses.{Literals, literals}
 use Rattle.sheet.specs.declared.edition.Edition.the-variants.{Narrow}
 use Rattle.sheet.specs.Records.{given, step, Record, node, drop}
 use Rattle.sheet.specs.Fields.{sheetBytes}
+use Rattle.press_spec.specs.declared.Recycling.{Recycling}
+use Rattle.press_spec.specs.Plans.{plan}
 use Rattle.demands.specs.Cases.{Case, presses, replays, accepts, refuses, replayed, ruleTable, junk, dirty, allRight}
 use Rattle.demands.specs.Starred.{pairRules, pair, irregularRules, irregular}
 "#;
@@ -45,8 +52,23 @@ use Rattle.clause.specs.Clauses.{Literals, literals}
 use Rattle.sheet.specs.declared.edition.Edition.the-variants.{Narrow, Wide}
 use Rattle.sheet.specs.Records.{given, step, Record, node, drop}
 use Rattle.sheet.specs.Fields.{sheetBytes}
+use Rattle.press_spec.specs.declared.Recycling.{Recycling}
+use Rattle.press_spec.specs.Plans.{plan}
 use Rattle.demands.specs.Cases.{Case, presses, replays, accepts, refuses, replayed, ruleTable, junk, clean, allRight}
 use Rattle.demands.specs.Starred.{loneRules, lone, lonePressed}
+"#;
+
+const RECYCLINGS: &str = r#"-- Sheets that the recyclings press apart, and that tell the intersection from passes that look like it. Made by the second program:
+-- `reference tables`.
+use mathlib.Core.List.{List, [], _∷_}
+use lib.Dec.{T}
+use Rattle.clause.specs.Clauses.{Literals, literals}
+use Rattle.sheet.specs.declared.edition.Edition.the-variants.{Narrow}
+use Rattle.sheet.specs.Records.{given, step, Record, node, drop}
+use Rattle.sheet.specs.Fields.{sheetBytes}
+use Rattle.press_spec.specs.declared.Recycling.the-variants.{Reset, Intersection}
+use Rattle.press_spec.specs.Plans.{plan}
+use Rattle.demands.specs.Cases.{Case, accepts, allRight}
 "#;
 
 pub fn starred() -> String {
@@ -54,7 +76,7 @@ pub fn starred() -> String {
     for worked in [lone(), pair(), irregular(), twice(), pivot()] {
         page += &rules_of(&worked);
         page += &records_of("", worked.name, &worked.records);
-        let out = worked.pressed();
+        let out = Either.pressed(&worked);
         page += &match (worked.name, out) {
             // as document 01 prints them, eight bytes, then eight, then eight
             ("pair", Some(out)) => {
@@ -68,33 +90,40 @@ pub fn starred() -> String {
         page += &records_of("", worked.name, &worked.records);
     }
     let mut cases = vec![];
-    cases.extend([lone(), pair(), irregular()].map(|worked| accepts(&worked)));
+    cases.extend([lone(), pair(), irregular()].map(|worked| accepts(Either, &worked)));
     cases.push(refuses(&twice(), "twiceRules"));
     cases.push(replays(&twice(), "twiceRules", 2));
     cases.extend([3, 2, 0].map(|slots| replays_pressed(&pair(), slots)));
     cases.extend([
         replays(&early_drop(), "pairRules", 2),
         replays(&gone(), "loneRules", 1),
-        accepts(&pivot()),
+        accepts(Either, &pivot()),
         replays(&pivot(), "pivotRules", 3),
         refuses(&pivot_64(), "pivotRules"),
         replays(&pivot_64(), "pivotRules", 3),
         refuses(&forward(), "pairRules"),
         replays(&forward(), "pairRules", 3),
     ]);
-    page + &table("starred", "Starred", &cases)
+    page + &table_by_either("starred", "Starred", &cases)
 }
 
 /// A worked sheet, and what it is to tell apart.
 type Told = (&'static str, Worked);
 
+/// The sheet, its rules, and what the press writes of it in each of these ways.
+fn told_of((why, worked): &Told, ways: &[How]) -> String {
+    let mut text = records_of(why, worked.name, &worked.records) + &rules_of(worked);
+    for how in ways {
+        let out = how.pressed(worked).expect("the press takes it");
+        text += &records_of("", &how.pressed_name(worked), &out);
+    }
+    text
+}
+
 pub fn telling() -> String {
     let mut page = TELLING.to_string();
-    for (why, worked) in &taken() {
-        page += &records_of(why, worked.name, &worked.records);
-        page += &rules_of(worked);
-        let out = worked.pressed().expect("the press takes it");
-        page += &records_of("", &format!("{}Pressed", worked.name), &out);
+    for told in &taken() {
+        page += &told_of(told, &[Either]);
     }
     let both_ways = both_ways_in_full_row();
     let in_full_row = (
@@ -113,11 +142,11 @@ pub fn telling() -> String {
         "\nunfoldable pub oneRule : List Literals\noneRule = {}\n",
         literals_of(&["+0"])
     );
-    page + &table("telling", "Telling", &telling_cases())
+    page + &table_by_either("telling", "Telling", &telling_cases())
 }
 
 /// Sheets that the press takes.
-fn taken() -> [Told; 9] {
+fn taken() -> [Told; 8] {
     [
         (
             "the right premise has more uses, and goes first",
@@ -133,15 +162,11 @@ fn taken() -> [Told; 9] {
             both_lack(),
         ),
         (
-            "after the rebuild a step names one node twice, though no step did before",
-            twice_after(),
-        ),
-        (
             "only the second trim brings the uses down so that the order changes",
             second_trim(),
         ),
         (
-            "a set carried into a node of two uses would cut it",
+            "what one of two uses hands over would cut the node: not carried, not joined, not the first or the last one's",
             shared_reset(),
         ),
         (
@@ -179,7 +204,10 @@ fn wrong() -> [Told; 3] {
 
 fn telling_cases() -> Vec<String> {
     let both_ways = both_ways_in_full_row();
-    let mut cases: Vec<String> = taken().iter().map(|(_, worked)| accepts(worked)).collect();
+    let mut cases: Vec<String> = taken()
+        .iter()
+        .map(|(_, worked)| accepts(Either, worked))
+        .collect();
     cases.push(presses(&bad_drop(), "oneRule", 72, 1));
     for (_, worked) in &refused() {
         cases.push(replays(worked, "oneRule", 1));
@@ -197,7 +225,8 @@ fn telling_cases() -> Vec<String> {
         replays(&either_way(), "eitherWayRules", 7),
         presses(&pair(), "pairRules", 119, 2),
         presses(&pair(), "pairRules", 120, 1),
-        "presses Narrow [] (ruleTable Narrow pairRules) 0 0 (2 ∷ 0 ∷ []) [] []".to_string(),
+        "presses (plan Narrow how) [] (ruleTable Narrow pairRules) 0 0 (2 ∷ 0 ∷ []) [] []"
+            .to_string(),
         "replays Narrow (1 ∷ []) (1 ∷ []) 2 (1 ∷ 0 ∷ []) (dirty 2)".to_string(),
     ]);
     cases
@@ -205,11 +234,8 @@ fn telling_cases() -> Vec<String> {
 
 pub fn wide() -> String {
     let mut page = WIDE.to_string();
-    for (why, worked) in &wide_taken() {
-        page += &records_of(why, worked.name, &worked.records);
-        page += &rules_of(worked);
-        let out = worked.pressed().expect("the press takes it");
-        page += &records_of("", &format!("{}Pressed", worked.name), &out);
+    for told in &wide_taken() {
+        page += &told_of(told, &[Either]);
     }
     for (why, worked, _) in &wide_refused() {
         page += &records_of(why, worked.name, &worked.records);
@@ -217,7 +243,7 @@ pub fn wide() -> String {
     for worked in [high_given(), high_both_ways()] {
         page += &rules_of(&worked);
     }
-    page + &table("wide", "WideSheets", &wide_cases())
+    page + &table_by_either("wide", "WideSheets", &wide_cases())
 }
 
 /// Wide sheets that the press takes.
@@ -271,7 +297,10 @@ fn wide_refused() -> [(&'static str, Worked, &'static str); 6] {
 
 fn wide_cases() -> Vec<String> {
     let lone = lone().in_edition(Wide);
-    let mut cases: Vec<String> = wide_taken().iter().map(|(_, of)| accepts(of)).collect();
+    let mut cases: Vec<String> = wide_taken()
+        .iter()
+        .map(|(_, worked)| accepts(Either, worked))
+        .collect();
     for (_, worked, rules) in &wide_refused() {
         cases.push(refuses(worked, rules));
         cases.push(replays(worked, rules, 3));
@@ -282,11 +311,49 @@ fn wide_cases() -> Vec<String> {
     }
     cases.extend([
         // 80N-40 bytes of room, and one less
-        accepts(&lone),
+        accepts(Either, &lone),
         presses(&lone, "loneRules", 39, 1),
         presses(&high_irregular(), "highIrregularRules", 679, 5),
         replays(&either_edition(), "eitherEditionRules", 5),
         replays_other(&either_edition(), 5),
     ]);
     cases
+}
+
+pub fn recyclings() -> String {
+    let ways = Recycling::ALL.map(By);
+    let mut page = RECYCLINGS.to_string();
+    let mut cases = vec![];
+    for told in &parting() {
+        page += &told_of(told, &ways);
+        cases.extend(ways.map(|how| accepts(how, &told.1)));
+    }
+    page + &table("recyclings", "Recyclings", &cases)
+}
+
+/// Sheets that the recyclings press apart.
+fn parting() -> [Told; 6] {
+    [
+        (
+            "what all uses allow cuts a step that the reset leaves. A pass in which a cut edge counts leaves it too",
+            all_allow(),
+        ),
+        ("the other way round: the intersection has a step more", reset_shorter()),
+        (
+            "what two uses have in common is neither nothing, nor all that they hand over, nor what the first or the last one does",
+            keeps_common(),
+        ),
+        (
+            "one of two uses is cut. A pass in which it counts cuts less, also where it hands over its side of the pivot",
+            cut_use(),
+        ),
+        (
+            "one of two uses is in a step that is not reached. A pass in which it counts cuts less",
+            unreached_use(),
+        ),
+        (
+            "by the reset, after the rebuild a step names one node twice, though no step did before",
+            twice_after(),
+        ),
+    ]
 }

@@ -41,9 +41,22 @@ pub(super) fn bytes_of(edition: Edition, name: &str, bytes: &[u8]) -> String {
     )
 }
 
+/// A table of cases that are right by either recycling, which is its parameter.
+pub(super) fn table_by_either(name: &str, statement: &str, cases: &[String]) -> String {
+    let cases = lines_of(cases);
+    let table = format!("\nunfoldable pub {name} : Recycling → List Case\n{name} how ={cases}\n");
+    let says = format!("(how : Recycling) → T (allRight ({name} how))");
+    table + &state(statement, &says)
+}
+
+/// A table of cases that name their recycling.
 pub(super) fn table(name: &str, statement: &str, cases: &[String]) -> String {
-    let table = define("", &format!("{name}Cases"), "List Case", &lines_of(cases));
-    format!("{table}\nabbrev pub {statement} : Type 0\n{statement} = T (allRight {name}Cases)\n")
+    let table = define("", name, "List Case", &lines_of(cases));
+    table + &state(statement, &format!("T (allRight {name})"))
+}
+
+fn state(statement: &str, says: &str) -> String {
+    format!("\nabbrev pub {statement} : Type 0\n{statement} = {says}\n")
 }
 
 pub(super) fn list<T: ToString>(numbers: &[T]) -> String {

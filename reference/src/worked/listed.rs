@@ -59,19 +59,15 @@ pub fn limits(edition: Edition) -> Vec<Entry> {
     let (most, longest) = (edition.press_records(), edition.replay_records());
     let (room, table_lines) = (edition.room(3), edition.table_lines());
     let ample = edition.room(most) + 60;
-    // the wide one would be long: that a record answers shows that 3 doesn't
-    let replayed = match edition {
-        Edition::Narrow => givens(longest),
-        Edition::Wide => zeros(longest),
-    };
     let press_in =
         |sheet: &[u8], rules: &[u8], room, marks| press_in(edition, sheet, rules, room, marks);
     vec![
         // as many as may be are not refused by 3, one more is, with a table
-        // that is 4; so for the replay
+        // that is 4; so for the replay, of which good records would be long:
+        // that a record answers shows that 3 doesn't
         press(edition, &givens(most), &table),
         press_in(&zeros(most + 1), &table[1..], ample, 8),
-        long_replay(edition, &replayed, &table, longest),
+        long_replay(edition, &zeros(longest), &table, longest),
         long_replay(edition, &zeros(longest + 1), &table[1..], longest + 1),
         // 1 comes before 3
         press_in(&zeros(most + 1)[1..], &table[1..], ample, 8),

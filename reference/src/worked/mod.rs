@@ -8,6 +8,7 @@ mod wide;
 
 use crate::cases::Case;
 use crate::edition::Edition;
+use crate::plan::{Plan, Recycling};
 use crate::sheets::starred::pair;
 use crate::sheets::{sheet, Worked};
 use crate::stream::Entry;
@@ -52,12 +53,20 @@ fn of_both(edition: Edition) -> Vec<Entry> {
         passes::stand_ins(edition),
         passes::orders(edition),
         passes::cuts(edition),
+        passes::recyclings(edition),
     ]
     .concat()
 }
 
 fn press_sheet(worked: &Worked) -> Entry {
     press(worked.edition, &worked.sheet(), &worked.table())
+}
+
+/// A press by each recycling.
+fn press_by_each(worked: &Worked) -> Vec<Entry> {
+    let (sheet, rules) = worked.bytes();
+    let by = |recycling| press_by(worked.plan(recycling), &sheet, &rules);
+    Recycling::ALL.map(by).to_vec()
 }
 
 fn replay_sheet(worked: &Worked, slots: usize) -> Entry {
@@ -68,19 +77,36 @@ fn both_of(worked: &Worked, slots: usize) -> Vec<Entry> {
     both(worked.edition, &worked.sheet(), &worked.table(), slots)
 }
 
-/// A press with room and marks to spare.
+/// What is pressed once is pressed by the program's passes.
+fn plan(edition: Edition) -> Plan {
+    Plan {
+        edition,
+        ..Plan::PROGRAM
+    }
+}
+
 fn press(edition: Edition, sheet: &[u8], rules: &[u8]) -> Entry {
+    press_by(plan(edition), sheet, rules)
+}
+
+/// A press with room and marks to spare.
+fn press_by(plan: Plan, sheet: &[u8], rules: &[u8]) -> Entry {
+    let edition = plan.edition;
     let records = sheet.len() / edition.record_bytes();
     let room = edition.room(records.max(1)) + 7;
     let marks = rules.len() / edition.line_bytes() + 7;
-    press_in(edition, sheet, rules, room, marks)
+    press_lent(plan, sheet, rules, room, marks)
 }
 
 fn press_in(edition: Edition, sheet: &[u8], rules: &[u8], room: usize, marks: usize) -> Entry {
+    press_lent(plan(edition), sheet, rules, room, marks)
+}
+
+fn press_lent(plan: Plan, sheet: &[u8], rules: &[u8], room: usize, marks: usize) -> Entry {
     let (sheet, rules) = (sheet.to_vec(), rules.to_vec());
     Entry {
         case: Case::Press {
-            edition,
+            plan,
             sheet,
             rules,
             room,
@@ -123,7 +149,9 @@ fn both(edition: Edition, sheet: &[u8], rules: &[u8], slots: usize) -> Vec<Entry
 fn pressed(worked: &Worked) -> Vec<u8> {
     sheet(
         worked.edition,
-        &worked.pressed().expect("the sheet is good"),
+        &worked
+            .pressed(Plan::PROGRAM.recycling)
+            .expect("the sheet is good"),
     )
 }
 

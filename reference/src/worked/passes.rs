@@ -1,14 +1,20 @@
 //! "Slips that look right", and what the passes can come to.
 
-use super::press_sheet;
+use super::{press_by_each, press_sheet};
 use crate::edition::Edition;
+use crate::sheets::recycling::*;
 use crate::sheets::telling::*;
 use crate::sheets::Worked;
 use crate::stream::Entry;
 
+/// By each recycling, and in the wide edition by the program's: the passes are the
+/// same, and so the stream stays short.
 fn presses<const N: usize>(edition: Edition, sheets: [Worked; N]) -> Vec<Entry> {
-    let press = |worked: Worked| press_sheet(&worked.in_edition(edition));
-    sheets.into_iter().map(press).collect()
+    let press = |worked: Worked| match edition {
+        Edition::Narrow => press_by_each(&worked),
+        Edition::Wide => vec![press_sheet(&worked.in_edition(edition))],
+    };
+    sheets.into_iter().flat_map(press).collect()
 }
 
 pub fn slips(edition: Edition) -> Vec<Entry> {
@@ -35,4 +41,17 @@ pub fn orders(edition: Edition) -> Vec<Entry> {
 /// The rest of what the definitions compute.
 pub fn cuts(edition: Edition) -> Vec<Entry> {
     presses(edition, [right_cut(), left_cut(), either_way()])
+}
+
+/// "Shared nodes keep what all uses allow."
+pub fn recyclings(edition: Edition) -> Vec<Entry> {
+    let sheets = [
+        all_allow(),
+        reset_shorter(),
+        keeps_common(),
+        cut_use(),
+        unreached_use(),
+    ];
+    let press = |worked: Worked| press_by_each(&worked.in_edition(edition));
+    sheets.into_iter().flat_map(press).collect()
 }

@@ -1,8 +1,10 @@
 //! Calls with memory that shows what was touched. What does not name an edition
-//! is of the narrow one.
+//! is of the narrow one, and what does not name a recycling is of both.
 #![allow(dead_code, unused_imports)] // each test file uses its own part of this module
 
 pub use reference::edition::Edition::{self, Narrow, Wide};
+pub use reference::plan::Plan;
+pub use reference::plan::Recycling::{self, Intersection, Reset};
 use reference::press::{press, read_proof, run_passes, Passes, Pressed};
 use reference::record::Record;
 use reference::refusal::Refusal;
@@ -19,31 +21,46 @@ pub fn rules(lines: &[&str]) -> Vec<u8> {
     reference::sheets::rules(Narrow, lines)
 }
 
-pub fn passes(sheet: &[u8], rules: &[u8]) -> Passes {
-    run_passes(read_proof(Narrow, sheet, rules).unwrap())
+pub fn passes_by(recycling: Recycling, worked: &Worked) -> Passes {
+    let proof = read_proof(worked.edition, &worked.sheet(), &worked.table());
+    run_passes(worked.plan(recycling), proof.unwrap())
 }
 
 /// What lent memory holds before a call.
 pub const OLD: u8 = 0xA5;
 
+#[derive(Debug, PartialEq, Eq)]
 pub struct Done {
     pub pressed: Pressed,
     pub out: Vec<u8>,
     pub core: Vec<usize>,
 }
 
-/// An accepted press. Checks on the way that marks are 0 or 1 and that output
-/// and marks beyond are untouched.
 pub fn press_ok(sheet: &[u8], rules: &[u8]) -> Done {
     press_ok_in(Narrow, sheet, rules)
 }
 
+/// An accepted press that both recyclings make alike.
 pub fn press_ok_in(edition: Edition, sheet: &[u8], rules: &[u8]) -> Done {
+    let by = |recycling| press_ok_by(Plan { edition, recycling }, sheet, rules);
+    let [reset, intersection] = Recycling::ALL.map(by);
+    assert_eq!(reset, intersection);
+    intersection
+}
+
+pub fn press_worked(recycling: Recycling, worked: &Worked) -> Done {
+    press_ok_by(worked.plan(recycling), &worked.sheet(), &worked.table())
+}
+
+/// An accepted press. Checks on the way that marks are 0 or 1 and that output
+/// and marks beyond are untouched.
+pub fn press_ok_by(plan: Plan, sheet: &[u8], rules: &[u8]) -> Done {
+    let edition = plan.edition;
     let record = edition.record_bytes();
     let lines = rules.len() / edition.line_bytes();
     let mut out = vec![OLD; edition.room(sheet.len() / record) + 7];
     let mut marks = vec![OLD; lines + 7];
-    let pressed = press(edition, sheet, rules, &mut out, &mut marks).unwrap();
+    let pressed = press(plan, sheet, rules, &mut out, &mut marks).unwrap();
     let (out, beyond_out) = out.split_at(pressed.records * record);
     let (marks, beyond_marks) = marks.split_at(lines);
     assert!(beyond_out.iter().chain(beyond_marks).all(|&b| b == OLD));
@@ -74,11 +91,15 @@ pub fn press_refused_in(
     lent: Option<(usize, usize)>,
 ) -> (u32, usize) {
     let (room, marks) = lent.unwrap_or((2 * sheet.len() + 48, 2000));
-    let mut out = vec![OLD; room];
-    let mut marks = vec![OLD; marks];
-    let refusal = press(edition, sheet, rules, &mut out, &mut marks).unwrap_err();
-    assert!(out.iter().chain(&marks).all(|&byte| byte == OLD));
-    (refusal.number, refusal.record)
+    let [reset, intersection] = Recycling::ALL.map(|recycling| {
+        let (mut out, mut marks) = (vec![OLD; room], vec![OLD; marks]);
+        let plan = Plan { edition, recycling };
+        let refusal = press(plan, sheet, rules, &mut out, &mut marks).unwrap_err();
+        assert!(out.iter().chain(&marks).all(|&byte| byte == OLD));
+        (refusal.number, refusal.record)
+    });
+    assert_eq!(reset, intersection);
+    intersection
 }
 
 /// A slot as no call may leave it.

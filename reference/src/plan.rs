@@ -1,0 +1,65 @@
+//! What a press is told beside its bytes: the edition, and the passes chosen.
+
+use crate::edition::Edition;
+
+/// How recycling makes a node's S where several edges lead to the node. Document
+/// 02 (vii): "Keep the old pass selectable".
+#[derive(Clone, Copy, Debug, PartialEq, Eq, PartialOrd, Ord)]
+pub enum Recycling {
+    Reset,
+    Intersection,
+}
+
+use Recycling::{Intersection, Reset};
+
+impl Recycling {
+    pub const ALL: [Recycling; 2] = [Reset, Intersection];
+
+    /// The number that names it in a stream of cases and for C.
+    pub fn number(self) -> u8 {
+        match self {
+            Reset => 0,
+            Intersection => 1,
+        }
+    }
+
+    pub fn word(self) -> &'static str {
+        match self {
+            Reset => "reset",
+            Intersection => "intersection",
+        }
+    }
+
+    pub fn of_word(word: &str) -> Option<Recycling> {
+        Recycling::ALL.into_iter().find(|of| of.word() == word)
+    }
+}
+
+#[derive(Clone, Copy, Debug, PartialEq, Eq)]
+pub struct Plan {
+    pub edition: Edition,
+    pub recycling: Recycling,
+}
+
+impl Plan {
+    /// "The program and the text reader stay with 64 variables"; of the two
+    /// recyclings "the program takes the new one".
+    pub const PROGRAM: Plan = Plan {
+        edition: Edition::Narrow,
+        recycling: Intersection,
+    };
+}
+
+#[cfg(test)]
+mod tests {
+    use super::*;
+
+    #[test]
+    fn a_recycling_is_named_by_its_number_and_its_word() {
+        for (number, of) in Recycling::ALL.into_iter().enumerate() {
+            assert_eq!(usize::from(of.number()), number);
+            assert_eq!(Recycling::of_word(of.word()), Some(of));
+        }
+        assert_eq!(Recycling::of_word("union"), None);
+    }
+}
