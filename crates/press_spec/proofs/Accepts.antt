@@ -13,6 +13,7 @@ use Rattle.sheet.specs.declared.Reason.the-variants.{Room}
 use Rattle.sheet.specs.declared.Verdict.{Verdict}
 use Rattle.sheet.specs.declared.Verdict.the-variants.{Fine, Refused}
 use Rattle.sheet.specs.declared.edition.Edition.{Edition}
+use Rattle.press_spec.specs.declared.Plan.{Plan}
 use Rattle.sheet.specs.Editions.{recordBytes, lineBytes, pressRecords}
 use Rattle.sheet.specs.Records.{Node, given, step, Record, node, drop, clause, nodeAt}
 use Rattle.sheet.specs.Fields.{recordAt, sheetBytes, ruleLines}
@@ -138,7 +139,10 @@ fine-press e z n (l, (r, m)) =
 
 -- ---- the press
 
-module _ (e : Edition) (c : Call) where
+module _ (plan : Plan) (c : Call) where
+  abbrev e : Edition
+  e = plan .edition
+
   abbrev sheet : List ℕ
   sheet = c .sheet
 
@@ -153,43 +157,43 @@ module _ (e : Edition) (c : Call) where
   MarksLines t =
       (line : ℕ)
       → line < ruleLines e rules
-      → (LineOf (links t) line → getD (press e c .marks) line 0 ≡ 1) × ((getD (press e c .marks) line 0 ≡ 0 → ⊥) → LineOf (links t) line)
+      → (LineOf (links t) line → getD (press plan c .marks) line 0 ≡ 1) × ((getD (press plan c .marks) line 0 ≡ 0 → ⊥) → LineOf (links t) line)
 
   -- ---- a sheet that passes 1 to 5 and is judged proper
 
   module _ (s : List Node) (fine : checked ≡ Fine) (j : judge e rules sheet ≡ proper s) where
-    does : press e c ≡ byJudging e c (proper s)
+    does : press plan c ≡ byJudging plan c (proper s)
     unfolding press byLengths
     does = rw (fine, j)
 
-    answers : press e c .answer ≡ accepted (report (ruleLines e rules) (pressed s))
+    answers : press plan c .answer ≡ accepted (report (ruleLines e rules) (pressed plan s))
     unfolding byJudging emit
     answers = ap (λ (o : Outcome). o .answer) does
 
-    writes : press e c .out ≡ put (c .out) 0 (sheetBytes e (withDrops (pressed s)))
+    writes : press plan c .out ≡ put (c .out) 0 (sheetBytes e (withDrops (pressed plan s)))
     unfolding byJudging emit
     writes = ap (λ (o : Outcome). o .out) does
 
     -- "The marked lines are exactly the lines of the emitted given records, no more and no fewer."
-    marks-lines : MarksLines (pressed s)
+    marks-lines : MarksLines (pressed plan s)
     unfolding byJudging emit core
     marks-lines line h = rw does ((λ l. line-put _ _ (c .marks) line h l), (λ f. put-line _ _ (c .marks) line h f))
 
-    marks-core : press e c .marks ≡ put (c .marks) 0 (core (ruleLines e rules) (pressed s))
+    marks-core : press plan c .marks ≡ put (c .marks) 0 (core (ruleLines e rules) (pressed plan s))
     unfolding byJudging emit
     marks-core = ap (λ (o : Outcome). o .marks) does
 
   -- every answer but a refusal comes from a sheet that passes 1 to 5 and is judged proper
-  judged-accepted : (r : Report) → press e c .answer ≡ accepted r → (checked ≡ Fine) × (s : List Node) × (judge e rules sheet ≡ proper s)
+  judged-accepted : (r : Report) → press plan c .answer ≡ accepted r → (checked ≡ Fine) × (s : List Node) × (judge e rules sheet ≡ proper s)
   unfolding press byLengths byJudging refuse
   judged-accepted r = by-lengths checked refl
     where
-      by-judging : (j : Judged) → judge e rules sheet ≡ j → byJudging e c j .answer ≡ accepted r
+      by-judging : (j : Judged) → judge e rules sheet ≡ j → byJudging plan c j .answer ≡ accepted r
           → (s : List Node) × (judge e rules sheet ≡ proper s)
       by-judging (proper s) q a = (s, q)
       by-judging (bad why k) q a = let z : _≡_ {A = ℕ} 0 1 = cc in absurd (omega arith)
 
-      by-lengths : (v : Verdict) → checked ≡ v → byLengths e c v .answer ≡ accepted r
+      by-lengths : (v : Verdict) → checked ≡ v → byLengths plan c v .answer ≡ accepted r
           → (checked ≡ Fine) × (s : List Node) × (judge e rules sheet ≡ proper s)
       by-lengths Fine q a = let (s, j) = by-judging (judge e rules sheet) refl a in (q, s, j)
       by-lengths (Refused why) q a = let z : _≡_ {A = ℕ} 0 1 = cc in absurd (omega arith)
@@ -200,25 +204,25 @@ module _ (e : Edition) (c : Call) where
     pub enough : Enough e (sizesOf c) (length input)
     pub read : ReadsAs e false sheet (map node input)
     pub each : AllProper e rules input
-    pub kept : Kept e rules input (pressed input)
-    pub writes : press e c .out ≡ put (c .out) 0 (sheetBytes e (withDrops (pressed input)))
-    pub marks-lines : MarksLines (pressed input)
-    pub marks-core : press e c .marks ≡ put (c .marks) 0 (core (ruleLines e rules) (pressed input))
-    pub concludes : r .conclusion ≡ conclusion (pressed input)
-    pub recorded : r .records ≡ length (withDrops (pressed input))
-    pub counts : r .nodes ≡ length (pressed input)
-    pub takes : r .steps ≡ stepsOf (pressed input)
-    pub peaks : r .peak ≡ peakFrom 0 (withDrops (pressed input))
-    pub totals : r .marked ≡ total (markLines (links (pressed input)) (replicate (ruleLines e rules) 0))
+    pub kept : Kept e rules input (pressed plan input)
+    pub writes : press plan c .out ≡ put (c .out) 0 (sheetBytes e (withDrops (pressed plan input)))
+    pub marks-lines : MarksLines (pressed plan input)
+    pub marks-core : press plan c .marks ≡ put (c .marks) 0 (core (ruleLines e rules) (pressed plan input))
+    pub concludes : r .conclusion ≡ conclusion (pressed plan input)
+    pub recorded : r .records ≡ length (withDrops (pressed plan input))
+    pub counts : r .nodes ≡ length (pressed plan input)
+    pub takes : r .steps ≡ stepsOf (pressed plan input)
+    pub peaks : r .peak ≡ peakFrom 0 (withDrops (pressed plan input))
+    pub totals : r .marked ≡ total (markLines (links (pressed plan input)) (replicate (ruleLines e rules) 0))
 
-  pub accepted-says : (r : Report) → press e c .answer ≡ accepted r → Says r
+  pub accepted-says : (r : Report) → press plan c .answer ≡ accepted r → Says r
   unfolding report core
   accepted-says r a =
       let (fine, s, j) = judged-accepted r a in
       let (each, long, read) = judged-proper e rules sheet s j in
       let enough = rw (← long) at (press-fine e (sizesOf c) fine) in
       let said = sym (answers s fine j) ∙ a in
-      let same : r ≡ report (ruleLines e rules) (pressed s) = cc in
+      let same : r ≡ report (ruleLines e rules) (pressed plan s) = cc in
       record {
         input = s;
         enough = enough;
@@ -227,7 +231,7 @@ module _ (e : Edition) (c : Call) where
           each = λ k h. rw (record-alone s k) (read k (rw (length-map s node) at h));
         };
         each = each;
-        kept = pressed-kept e rules s each (enough .0 .1);
+        kept = pressed-kept plan rules s each (enough .0 .1);
         writes = writes s fine j;
         marks-lines = marks-lines s fine j;
         marks-core = marks-core s fine j;
@@ -247,7 +251,7 @@ module _ (e : Edition) (c : Call) where
       (record-count e (length sheet) (length s) (rw (length-map s node) at (p .read .size)))
 
   pub proper-accepted : (rs : List Record) → Proper e (pressRecords e) false rules sheet rs → Roomy e (length rs) (sizesOf c)
-      → (r : Report) × (press e c .answer ≡ accepted r)
+      → (r : Report) × (press plan c .answer ≡ accepted r)
   proper-accepted rs p roomy =
       let same = reads-nodes e sheet rs (p .read) in (
         _,
@@ -257,7 +261,7 @@ module _ (e : Edition) (c : Call) where
 
   -- ---- what is accepted is proper
 
-  pub accepted-proper : (r : Report) → press e c .answer ≡ accepted r
+  pub accepted-proper : (r : Report) → press plan c .answer ≡ accepted r
       → (rs : List Record) × Proper e (pressRecords e) false rules sheet rs × Roomy e (length rs) (sizesOf c)
   accepted-proper r a =
       let y = accepted-says r a in

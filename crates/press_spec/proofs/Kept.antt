@@ -1,24 +1,27 @@
 -- What every press keeps, for any cuts that are Allowed and any order that ends with the sink; and the press of the scope document as one of these.
 use Prim.Native.Nat.{ℕ, _≤_, _<_, pred}
 use mathlib.Core.Path.{_≡_, refl, ap}
-use mathlib.Core.Logic.{inl, inr}
+use mathlib.Core.Bool.{true}
+use mathlib.Core.Logic.{_⊎_, inl, inr}
 use mathlib.Core.List.{List}
 use native.Mathlib.Omega.{arith}
-use lib.ListN.{length, length-map}
-use Rattle.clause.specs.Clauses.{Literals, none, Within}
+use lib.ListN.{length, getD, length-map}
+use Rattle.clause.specs.Clauses.{Literal, Literals, none, holds, Within}
 use Rattle.sheet.specs.declared.edition.Edition.{Edition}
 use Rattle.sheet.specs.Records.{Node, clause, nodeAt}
+use Rattle.press_spec.specs.declared.Plan.{Plan}
 use Rattle.press_spec.specs.Links.{link, links, sink, Parents}
 use Rattle.press_spec.specs.Trim.{usesFrom}
-use Rattle.press_spec.specs.Recycle.{Fit, reset, recycle, Fate, fates}
+use Rattle.press_spec.specs.Recycle.{unreached, reached, Fit, recycle, Fate, fates}
 use Rattle.press_spec.specs.Rebuild.{Built, standIn, standing, rebuild}
 use Rattle.press_spec.specs.Order.{orderFrom, laid}
-use Rattle.press_spec.specs.Press.{conclusion, recycled, arranged, pressedFrom, pressed}
+use Rattle.press_spec.specs.Press.{conclusion, reaches, recycled, arranged, chosenFit, pressedFrom, pressed}
 use Rattle.press_spec.proofs.Proper.{ProperNode, AllProper, Kept}
 use Rattle.press_spec.proofs.Nodes.{link-at, links-falling, proper-falling}
 use Rattle.press_spec.proofs.Rebuilt.{Rebuilding, rebuilt, IsKept, StandsIn, standIn-sound, standIn-below}
 use Rattle.press_spec.proofs.Allowed.{Allowed, allowed-closed, standing-within}
-use Rattle.press_spec.proofs.Recycled.{Fair, reset-fair, setsIn, recycle-allowed, recycle-keeps, recycle-starts}
+use Rattle.press_spec.proofs.Fair.{Fair, chosen-fair}
+use Rattle.press_spec.proofs.Recycled.{setsIn, set-is, is-kept, recycle-allowed, recycle-keeps, recycle-starts}
 use Rattle.press_spec.proofs.Ordered.{Ordering, orderFrom-ends}
 use Rattle.press_spec.proofs.Laid.{laid-some, laid-proper, laid-used, laid-concludes, laid-fits, laid-shorter}
 
@@ -86,12 +89,29 @@ module _ (e : Edition) (rules : List ℕ) (s : List Node) (proper : AllProper e 
       (recycle-allowed fit S₀ (links s) f (sink s) i fair) (recycle-keeps fit S₀ (links s) f (sink s) i fair)
       (rw (recycle-starts fit S₀ (links s) f (sink s) i fair) sub)
 
-  -- "From now on the sink's S is its clause.": it is within the conclusion, being just that
-  pub pressed-kept : Kept e rules s (pressed s)
-  unfolding pressed pressedFrom
-  pressed-kept = recycled-kept (reset (usesFrom (links s) (sink s))) (reset-fair (usesFrom (links s) (sink s))) (conclusion s) (λ x h. h)
+  -- The fact that every recycling is proved from: "the new clause has no literal outside the old one and S".
+  pub recycled-within : (fit : Fit) → Fair (usesFrom (links s) (sink s)) fit → (S₀ : Literals) → (n : ℕ) (R : Literals) → n < length s
+      → getD (reaches fit S₀ s) n unreached ≡ reached R → (x : Literal) → holds x (standing (recycled fit S₀ s) n) ≡ true
+      → (holds x (clause (nodeAt s n)) ≡ true) ⊎ (holds x R ≡ true)
+  unfolding recycled
+  recycled-within fit fair S₀ n R h q x t =
+      let f = links-falling s (proper-falling e rules s proper) in
+      let i : sink s < length (links s) = rw (length-map s link) (sink-inside s full) in
+      let table = reaches fit S₀ s in
+      let (z, y) = is-kept (links s) table n R q in
+      rw (set-is (links s) table n R q) at
+      (standing-within e rules s proper (fates (links s) table) (setsIn table) (recycle-allowed fit S₀ (links s) f (sink s) i fair)
+      (rebuild s (fates (links s) table)) (rebuilt s (fates (links s) table) (proper-falling e rules s proper)) n z h y x t)
+
+-- "From now on the sink's S is its clause.": it is within the conclusion, being just that
+pub pressed-kept : (plan : Plan) (rules : List ℕ) (s : List Node) → AllProper (plan .edition) rules s → 1 ≤ length s
+    → Kept (plan .edition) rules s (pressed plan s)
+unfolding pressed pressedFrom
+pressed-kept plan rules s proper full =
+    recycled-kept (plan .edition) rules s proper full (chosenFit plan s) (chosen-fair (plan .recycling) (usesFrom (links s) (sink s))) (conclusion s)
+    (λ x h. h)
 
 -- "Sheets with an empty conclusion press as before.": as with an empty set for the sink
-pub empty-as-before : (s : List Node) → conclusion s ≡ none → pressed s ≡ pressedFrom none s
+pub empty-as-before : (plan : Plan) (s : List Node) → conclusion s ≡ none → pressed plan s ≡ pressedFrom plan none s
 unfolding pressed
-empty-as-before s e = ap (λ (S : Literals). pressedFrom S s) e
+empty-as-before plan s e = ap (λ (S : Literals). pressedFrom plan S s) e

@@ -2,51 +2,27 @@
 use Prim.Native.Nat.{ℕ, suc, _+_, _≤_, _<_}
 use mathlib.Core.Bool.{Bool, true, false, cond}
 use mathlib.Core.Path.{_≡_, refl, sym, _∙_}
-use mathlib.Core.Logic.{_≢_}
+use mathlib.Core.Logic.{_≢_, inl, inr}
 use mathlib.Core.List.{List}
 use native.Mathlib.Omega.{arith}
 use native.Mathlib.Decide.{ℕ-discrete}
-use lib.Dec.{ltb}
 use lib.ListN.{length, getD, set, replicate, length-set, length-replicate}
 use lib.Seq.{getD-set-same, getD-set-other}
-use borrow.Author.Tests.{ltb-true}
 use Rattle.base.proofs.Folds.{fall-by}
 use Rattle.base.proofs.Lists.{getD-blank}
 use Rattle.clause.specs.Clauses.{Literals, plus, minus, none, holds, adding, Within}
 use Rattle.press_spec.specs.Links.{Link, leaf, join, linkAt}
 use Rattle.press_spec.specs.Trim.{trim, usesIn, usesFrom}
-use Rattle.press_spec.specs.Recycle.{Reach, unreached, reached, Fit, reset, hand, Cut, cutLeft, cutRight, uncut, cutOf, handOn, visit, recycleTurn, recycle, kept, fate, fates}
+use Rattle.press_spec.specs.Recycle.{Reach, unreached, reached, Fit, hand, Cut, cutLeft, cutRight, uncut, cutOf, handOn, visit, recycleTurn, recycle, kept, fate, fates, EdgeHands, LinkHands, Hands}
 use Rattle.press_spec.proofs.Nodes.{Falling}
-use Rattle.press_spec.proofs.Literals.{in-none}
+use Rattle.press_spec.proofs.Fair.{Fair}
 use Rattle.press_spec.proofs.Trimmed.{Marked, trim-keeps, trim-closed, usesAfter, uses-fewer, uses-all, uses-here, uses-left, uses-right, uses-both}
 use Rattle.press_spec.proofs.Rebuilt.{IsKept}
 use Rattle.press_spec.proofs.Allowed.{Gets, EdgesAllowed, LinkAllowed, Allowed}
 
--- ---- a fair fit
-
--- what a node gets lies in what it is handed, and in what it had if it was reached before: that happens only to one with two or more uses
-pub record Fair (count : ℕ → ℕ) (fit : Fit) : Type 0 where
-  pub once : (n : ℕ) (before : Reach) (S : Literals) → Within (fit n before S) S
-  pub again : (n : ℕ) (R S : Literals) → 2 ≤ count n → Within (fit n (reached R) S) R
-
-pub reset-fair : (count : ℕ → ℕ) → Fair count (reset count)
-unfolding reset
-reset-fair count = record {
-  once = λ n before S. first (ltb (count n) 2) S;
-  again = λ n R S h. second n R S h (ltb (count n) 2) refl;
-}
-  where
-    first : (u : Bool) (S : Literals) → Within (cond u S none) S
-    first true S x h = h
-    first false S x h = absurd (in-none x h)
-
-    second : (n : ℕ) (R S : Literals) → 2 ≤ count n → (u : Bool) → ltb (count n) 2 ≡ u → Within (cond u S none) R
-    second n R S h true q x t = absurd (omega (arith, ltb-true (count n) 2 q))
-    second n R S h false q x t = absurd (in-none x t)
-
 -- ---- what the table says of a node
 
-abbrev Handed : List Reach → ℕ → Literals → Type 0
+abbrev pub Handed : List Reach → ℕ → Literals → Type 0
 Handed table n X = (R : Literals) × (getD table n unreached ≡ reached R) × Within R X
 
 abbrev HandedOn : List Reach → Cut → ℕ → ℕ → ℕ → Literals → Type 0
@@ -72,11 +48,11 @@ visited-keeps table table′ tight (join p l r) S g = by (cutOf p S) g
     by uncut h = (tight l (adding (plus p) S) (h .0), tight r (adding (minus p) S) (h .1))
 
 module _ (fit : Fit) (n : ℕ) (X : Literals) (table : List Reach) where
-  hand-long : length (hand fit n X table) ≡ length table
+  pub hand-long : length (hand fit n X table) ≡ length table
   unfolding hand
   hand-long = length-set table n _
 
-  hand-other : (k : ℕ) → k ≢ n → getD (hand fit n X table) k unreached ≡ getD table k unreached
+  pub hand-other : (k : ℕ) → k ≢ n → getD (hand fit n X table) k unreached ≡ getD table k unreached
   unfolding hand
   hand-other k h = getD-set-other table n k _ unreached h
 
@@ -109,16 +85,16 @@ module _ (fit : Fit) (S₀ : Literals) (s : List Link) (earlier : Falling s) (fr
   uses-later i n = uses-all s (trim s from) i n
 
   -- the nodes from i on are visited; a node below i that is reached is a parent of one of them
-  record Recycling (i : ℕ) (table : List Reach) : Type 0 where
+  record Walked (i : ℕ) (table : List Reach) : Type 0 where
     long : length table ≡ length s
     start : getD table from unreached ≡ reached S₀
     visited : (n : ℕ) (S : Literals) → i ≤ n → getD table n unreached ≡ reached S → Visited table (linkAt s n) S
     marked : (n : ℕ) (S : Literals) → getD table n unreached ≡ reached S → Marked (trim s from) n
     named : (n : ℕ) (S : Literals) → n < i → n ≢ from → getD table n unreached ≡ reached S → 1 ≤ later i n
 
-  module _ (i : ℕ) (low : i ≤ from) (table : List Reach) (t : Recycling (suc i) table) where
+  module _ (i : ℕ) (low : i ≤ from) (table : List Reach) (t : Walked (suc i) table) where
     -- nothing is handed on
-    rests : ((S : Literals) → getD table i unreached ≡ reached S → Visited table (linkAt s i) S) → Recycling i table
+    rests : ((S : Literals) → getD table i unreached ≡ reached S → Visited table (linkAt s i) S) → Walked i table
     rests g = record {
       long = t .long;
       start = t .start;
@@ -154,7 +130,7 @@ module _ (fit : Fit) (S₀ : Literals) (s : List Link) (earlier : Falling s) (fr
       -- only parents are handed anything
       hands : (table′ : List Reach) → length table′ ≡ length s → Tighter table table′
           → ((n : ℕ) → n ≢ l → n ≢ r → getD table′ n unreached ≡ getD table n unreached)
-          → HandedOn table′ (cutOf p S) p l r S → Recycling i table′
+          → HandedOn table′ (cutOf p S) p l r S → Walked i table′
       hands table′ z tight other g = record {
         long = z;
         start = other from (omega (arith, before)) (omega (arith, before)) ∙ t .start;
@@ -190,7 +166,7 @@ module _ (fit : Fit) (S₀ : Literals) (s : List Link) (earlier : Falling s) (fr
       room-right : r < length table
       room-right = rw (t .long) (omega (arith, before))
 
-      hand-on : (z : Cut) → cutOf p S ≡ z → Recycling i (handOn fit z p l r S table)
+      hand-on : (z : Cut) → cutOf p S ≡ z → Walked i (handOn fit z p l r S table)
       unfolding handOn
       hand-on cutLeft q =
           hands (hand fit r S table) (hand-long fit r S table ∙ t .long)
@@ -221,14 +197,14 @@ module _ (fit : Fit) (S₀ : Literals) (s : List Link) (earlier : Falling s) (fr
             hand-gets fit r Y first (usesFrom s from) fair room,
           ))
 
-    visit-one : (m : Link) (R : Reach) → linkAt s i ≡ m → getD table i unreached ≡ R → Recycling i (visit fit m R table)
+    visit-one : (m : Link) (R : Reach) → linkAt s i ≡ m → getD table i unreached ≡ R → Walked i (visit fit m R table)
     unfolding visit
     visit-one m unreached a e = rests (λ S q. let z : _≡_ {A = ℕ} 0 1 = cc in absurd (omega arith))
     visit-one (leaf line) (reached S) a e = rests (λ R q. rw a tt)
     visit-one (join p l r) (reached S) a e = hand-on p l r a S e (cutOf p S) refl
 
-  recycling-start : Recycling (suc from) (set (replicate (length s) unreached) from (reached S₀))
-  recycling-start = record {
+  walk-start : Walked (suc from) (set (replicate (length s) unreached) from (reached S₀))
+  walk-start = record {
     long = length-set (replicate (length s) unreached) from (reached S₀) ∙ length-replicate (length s) unreached;
     start = getD-set-same (replicate (length s) unreached) from (reached S₀) unreached (rw length-replicate inside);
     visited = λ n S o q. absurd (only n S (omega arith) q);
@@ -244,10 +220,10 @@ module _ (fit : Fit) (S₀ : Literals) (s : List Link) (earlier : Falling s) (fr
           let z : _≡_ {A = ℕ} 0 1 = cc in
           omega arith
 
-  recycles : Recycling 0 (recycle fit S₀ s from)
+  recycles : Walked 0 (recycle fit S₀ s from)
   unfolding recycle recycleTurn
-  recycles = fall-by Recycling (recycleTurn fit s) (suc from) _
-      (λ i table h t. visit-one i (omega arith) table t (linkAt s i) (getD table i unreached) refl refl) recycling-start
+  recycles = fall-by Walked (recycleTurn fit s) (suc from) _
+      (λ i table h t. visit-one i (omega arith) table t (linkAt s i) (getD table i unreached) refl refl) walk-start
 
 -- ---- from the table to sets and cuts
 
@@ -258,7 +234,7 @@ setOf (reached S) = S
 unfoldable pub setsIn : List Reach → ℕ → Literals
 setsIn table n = setOf (getD table n unreached)
 
-cut-left : (p : ℕ) (S : Literals) → cutOf p S ≡ cutLeft → holds (minus p) S ≡ true
+pub cut-left : (p : ℕ) (S : Literals) → cutOf p S ≡ cutLeft → holds (minus p) S ≡ true
 unfolding cutOf
 cut-left p S = by (holds (minus p) S) (holds (plus p) S)
   where
@@ -267,7 +243,7 @@ cut-left p S = by (holds (minus p) S) (holds (plus p) S)
     by false true q = cc
     by false false q = cc
 
-cut-right : (p : ℕ) (S : Literals) → cutOf p S ≡ cutRight → holds (plus p) S ≡ true
+pub cut-right : (p : ℕ) (S : Literals) → cutOf p S ≡ cutRight → holds (plus p) S ≡ true
 unfolding cutOf
 cut-right p S = by (holds (minus p) S) (holds (plus p) S)
   where
@@ -277,11 +253,11 @@ cut-right p S = by (holds (minus p) S) (holds (plus p) S)
     by false false q = cc
 
 module _ (s : List Link) (table : List Reach) where
-  set-is : (n : ℕ) (S : Literals) → getD table n unreached ≡ reached S → setsIn table n ≡ S
+  pub set-is : (n : ℕ) (S : Literals) → getD table n unreached ≡ reached S → setsIn table n ≡ S
   unfolding setsIn setOf
   set-is n S e = rw e
 
-  is-kept : (n : ℕ) (S : Literals) → getD table n unreached ≡ reached S → IsKept (fates s table) n
+  pub is-kept : (n : ℕ) (S : Literals) → getD table n unreached ≡ reached S → IsKept (fates s table) n
   unfolding fates
   is-kept n S e = rw e (by (linkAt s n))
     where
@@ -314,7 +290,7 @@ module _ (s : List Link) (table : List Reach) where
 
 module _ (fit : Fit) (S₀ : Literals) (s : List Link) (earlier : Falling s) (from : ℕ) (inside : from < length s)
     (fair : Fair (usesFrom s from) fit) where
-  walked : Recycling fit S₀ s earlier from inside fair 0 (recycle fit S₀ s from)
+  walked : Walked fit S₀ s earlier from inside fair 0 (recycle fit S₀ s from)
   walked = recycles fit S₀ s earlier from inside fair
 
   pub recycle-allowed : Allowed (fates s (recycle fit S₀ s from)) (setsIn (recycle fit S₀ s from)) s
@@ -325,3 +301,23 @@ module _ (fit : Fit) (S₀ : Literals) (s : List Link) (earlier : Falling s) (fr
 
   pub recycle-starts : setsIn (recycle fit S₀ s from) from ≡ S₀
   recycle-starts = set-is s (recycle fit S₀ s from) from S₀ (walked .start)
+
+  -- a node's set lies in what each uncut edge from a reached step hands it
+  pub recycle-hands : (n m : ℕ) (X : Literals) → Hands s (recycle fit S₀ s from) n m X → Handed (recycle fit S₀ s from) m X
+  recycle-hands n m X h =
+      by (linkAt s n) (getD table n unreached) (λ S e. walked .visited n S (omega arith) e) h
+    where
+      table : List Reach
+      table = recycle fit S₀ s from
+
+      edge : (z : Cut) (p l r : ℕ) (S : Literals) → HandedOn table z p l r S → EdgeHands z p l r S m X → Handed table m X
+      edge cutLeft p l r S g (i, y) = rw (i, y) g
+      edge cutRight p l r S g (i, y) = rw (i, y) g
+      edge uncut p l r S g (inl (i, y)) = rw (i, y) (g .0)
+      edge uncut p l r S g (inr (i, y)) = rw (i, y) (g .1)
+
+      by : (d : Link) (R : Reach) → ((S : Literals) → R ≡ reached S → Visited table d S) → LinkHands d R m X → Handed table m X
+      by (join p l r) (reached S) f k = edge (cutOf p S) p l r S (f S refl) k
+      by (leaf line) (reached S) f k = absurd k
+      by (leaf line) unreached f k = absurd k
+      by (join p l r) unreached f k = absurd k

@@ -13,6 +13,7 @@ use Rattle.sheet.specs.declared.Reason.the-variants.{Room}
 use Rattle.sheet.specs.declared.Verdict.{Verdict}
 use Rattle.sheet.specs.declared.Verdict.the-variants.{Fine, Refused}
 use Rattle.sheet.specs.declared.edition.Edition.{Edition}
+use Rattle.press_spec.specs.declared.Plan.{Plan}
 use Rattle.sheet.specs.Editions.{recordBytes, lineBytes}
 use Rattle.sheet.specs.Records.{Node, Record, node, nodeAt}
 use Rattle.sheet.specs.Fields.{recordAt}
@@ -131,7 +132,10 @@ module _ (e : Edition) (rules sheet : List ℕ) where
 
 -- ---- the press
 
-module _ (e : Edition) (c : Call) (n k : ℕ) where
+module _ (plan : Plan) (c : Call) (n k : ℕ) where
+  abbrev e : Edition
+  e = plan .edition
+
   abbrev checked : Verdict
   checked = checkPress e (sizesOf c)
 
@@ -141,7 +145,7 @@ module _ (e : Edition) (c : Call) (n k : ℕ) where
   abbrev judging : Judged
   judging = judge e (c .rules) (c .sheet)
 
-  by-judging : checked ≡ Fine → (j : Judged) → judging ≡ j → byJudging e c j .answer ≡ refused n k → (rs : List Record) × LentFine lent × RecordRefused (placeAfter e (c .rules) rs) (c .sheet) n k
+  by-judging : checked ≡ Fine → (j : Judged) → judging ≡ j → byJudging plan c j .answer ≡ refused n k → (rs : List Record) × LentFine lent × RecordRefused (placeAfter e (c .rules) rs) (c .sheet) n k
   unfolding byJudging emit refuse
   by-judging f (proper s) q a = let z : _≡_ {A = ℕ} 0 1 = cc in absurd (omega arith)
   by-judging f (bad why i) q a =
@@ -159,21 +163,21 @@ module _ (e : Edition) (c : Call) (n k : ℕ) where
         ),
       )
 
-  by-lengths : (v : Verdict) → checked ≡ v → byLengths e c v .answer ≡ refused n k → Refuses e c n k
+  by-lengths : (v : Verdict) → checked ≡ v → byLengths plan c v .answer ≡ refused n k → Refuses e c n k
   unfolding byLengths refuse
   by-lengths Fine q a = inr (by-judging q judging refl a)
   by-lengths (Refused why) q a = inl (why, press-refused e (sizesOf c) why q, cc, cc)
 
-  refuses : press e c .answer ≡ refused n k → Refuses e c n k
+  refuses : press plan c .answer ≡ refused n k → Refuses e c n k
   unfolding press
   refuses = by-lengths checked refl
 
-  lent-answers : LentRefused lent n k → press e c .answer ≡ refused n k
+  lent-answers : LentRefused lent n k → press plan c .answer ≡ refused n k
   unfolding press byLengths refuse
   lent-answers (why, r, i, j) = rw (refused-press e (sizesOf c) why r, i, j)
 
   record-answers : (rs : List Record) → LentFine lent → RecordRefused (placeAfter e (c .rules) rs) (c .sheet) n k
-      → press e c .answer ≡ refused n k
+      → press plan c .answer ≡ refused n k
   unfolding press byLengths byJudging refuse
   record-answers rs fine (good, long, inside, why, r, i) =
       let t = nodesOf rs in
@@ -186,4 +190,4 @@ module _ (e : Edition) (c : Call) (n k : ℕ) where
       rw (none-press e (sizesOf c) fine, j, i, z)
 
 pub press-refuses : PressRefuses
-press-refuses e c n k = (refuses e c n k, λ x. elim x [ inl a ↦ lent-answers e c n k a | inr (rs, fine, a) ↦ record-answers e c n k rs fine a ])
+press-refuses plan c n k = (refuses plan c n k, λ x. elim x [ inl a ↦ lent-answers plan c n k a | inr (rs, fine, a) ↦ record-answers plan c n k rs fine a ])

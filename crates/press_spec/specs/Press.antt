@@ -8,6 +8,7 @@ use Rattle.sheet.specs.declared.Reason.{Reason}
 use Rattle.sheet.specs.declared.Verdict.{Verdict}
 use Rattle.sheet.specs.declared.Verdict.the-variants.{Fine, Refused}
 use Rattle.sheet.specs.declared.edition.Edition.{Edition}
+use Rattle.press_spec.specs.declared.Plan.{Plan}
 use Rattle.sheet.specs.Reasons.{numberOf}
 use Rattle.sheet.specs.Records.{Node, clause, nodeAt}
 use Rattle.sheet.specs.Fields.{sheetBytes, ruleLines}
@@ -15,29 +16,37 @@ use Rattle.sheet.specs.Counts.{stepsOf, peakFrom}
 use Rattle.press_spec.specs.Links.{links, sink}
 use Rattle.press_spec.specs.Judge.{Sizes, sizes, checkPress, Judged, proper, bad, judge}
 use Rattle.press_spec.specs.Trim.{usesFrom}
-use Rattle.press_spec.specs.Recycle.{Fit, reset, recycle, fates}
+use Rattle.press_spec.specs.Recycle.{Fit, Reach, fitOf, recycle, fates}
 use Rattle.press_spec.specs.Rebuild.{Built, standIn, rebuild}
 use Rattle.press_spec.specs.Order.{orderFrom, laid}
 use Rattle.press_spec.specs.Drops.{withDrops, markLines, total}
 
--- 2 and 3: with a way to fit sets, and the sink's own set
+-- 2: with a way to fit sets, and the sink's own set
+abbrev pub reaches : Fit → Literals → List Node → List Reach
+reaches fit S s = recycle fit S (links s) (sink s)
+
+-- 2 and 3
 unfoldable pub recycled : Fit → Literals → List Node → Built
-recycled fit S s = rebuild s (fates (links s) (recycle fit S (links s) (sink s)))
+recycled fit S s = rebuild s (fates (links s) (reaches fit S s))
 
 -- 4 and 5: from the sink's stand-in
 unfoldable pub arranged : Built → ℕ → List Node
 arranged b n = laid (b .nodes) (orderFrom (links (b .nodes)) (standIn b n))
 
--- 1 to 5, with a set for the sink
-unfoldable pub pressedFrom : Literals → List Node → List Node
-pressedFrom S s = arranged (recycled (reset (usesFrom (links s) (sink s))) S s) (sink s)
+-- the way to fit sets that the plan chooses
+abbrev pub chosenFit : Plan → List Node → Fit
+chosenFit plan s = fitOf (plan .recycling) (usesFrom (links s) (sink s))
+
+-- 1 to 5, by the passes chosen, with a set for the sink
+unfoldable pub pressedFrom : Plan → Literals → List Node → List Node
+pressedFrom plan S s = arranged (recycled (chosenFit plan s) S s) (sink s)
 
 unfoldable pub conclusion : List Node → Literals
 conclusion s = clause (nodeAt s (sink s))
 
 -- "The sink's S is its clause."
-unfoldable pub pressed : List Node → List Node
-pressed s = pressedFrom (conclusion s) s
+unfoldable pub pressed : Plan → List Node → List Node
+pressed plan s = pressedFrom plan (conclusion s) s
 
 -- what a press is lent
 pub record Call : Type 0 where
@@ -98,13 +107,13 @@ emit e c s =
 unfoldable pub refuse : Call → Reason → ℕ → Outcome
 refuse c why k = outcome (refused (numberOf why) k) (c .out) (c .marks)
 
-unfoldable pub byJudging : Edition → Call → Judged → Outcome
-byJudging e c (proper s) = emit e c (pressed s)
-byJudging e c (bad why k) = refuse c why k
+unfoldable pub byJudging : Plan → Call → Judged → Outcome
+byJudging plan c (proper s) = emit (plan .edition) c (pressed plan s)
+byJudging plan c (bad why k) = refuse c why k
 
-unfoldable pub byLengths : Edition → Call → Verdict → Outcome
-byLengths e c Fine = byJudging e c (judge e (c .rules) (c .sheet))
-byLengths e c (Refused why) = refuse c why 0
+unfoldable pub byLengths : Plan → Call → Verdict → Outcome
+byLengths plan c Fine = byJudging plan c (judge (plan .edition) (c .rules) (c .sheet))
+byLengths plan c (Refused why) = refuse c why 0
 
-unfoldable pub press : Edition → Call → Outcome
-press e c = byLengths e c (checkPress e (sizesOf c))
+unfoldable pub press : Plan → Call → Outcome
+press plan c = byLengths plan c (checkPress (plan .edition) (sizesOf c))

@@ -2,25 +2,39 @@
 -- parent on an uncut edge of a reached step."
 use Prim.Native.Nat.{ℕ, suc}
 use mathlib.Core.Bool.{cond}
+use mathlib.Core.Path.{_≡_}
+use mathlib.Core.Logic.{_⊎_}
 use mathlib.Core.List.{List}
 use lib.Dec.{ltb}
 use lib.ListN.{length, getD, set, replicate}
 use Rattle.base.specs.Folds.{fall}
-use Rattle.clause.specs.Clauses.{Literals, none, plus, minus, holds, adding}
+use Rattle.clause.specs.Clauses.{Literals, none, plus, minus, holds, adding, common}
+use Rattle.press_spec.specs.declared.Recycling.{Recycling}
+use Rattle.press_spec.specs.declared.Recycling.the-variants.{Reset, Intersection}
 use Rattle.press_spec.specs.Links.{Link, leaf, join, linkAt}
 
 pub data Reach : Type 0 where
   unreached : Reach
   reached : Literals → Reach
 
--- How a set is fitted to the node that it is handed to, which was unreached or reached before. The scope document's rule, `reset`, has no use for what the
--- node had before; it stands here so that a rule that joins what several uses hand over is another `Fit` and no other pass.
+-- How a set is fitted to the node that it is handed to, which was unreached or reached before. `reset` has no use for what the node had before,
+-- `intersect` none for which node it is.
 abbrev pub Fit : Type 0
 Fit = ℕ → Reach → Literals → Literals
 
 -- "A node with two or more uses has S empty. Otherwise S comes from its only use."
 unfoldable pub reset : (ℕ → ℕ) → Fit
 reset count n before S = cond (ltb (count n) 2) S none
+
+-- "A node's S is the intersection over all its uncut edges from reached steps of what each would hand it" (003, RecyclePivotsWithIntersection).
+unfoldable pub intersect : Fit
+intersect n unreached S = S
+intersect n (reached R) S = common R S
+
+-- "Keep the old pass selectable."
+unfoldable pub fitOf : Recycling → (ℕ → ℕ) → Fit
+fitOf Reset count = reset count
+fitOf Intersection count = intersect
 
 unfoldable pub hand : Fit → ℕ → Literals → List Reach → List Reach
 hand fit n S table = set table n (reached (fit n (getD table n unreached) S))
@@ -63,3 +77,20 @@ fate (join p l r) (reached S) = kept (cutOf p S)
 
 unfoldable pub fates : List Link → List Reach → ℕ → Fate
 fates s table n = fate (linkAt s n) (getD table n unreached)
+
+-- ---- "What each would hand it", said of the finished table.
+
+-- a step on p whose set is S hands X to its parent m, on an edge that is not cut
+abbrev pub EdgeHands : Cut → ℕ → ℕ → ℕ → Literals → ℕ → Literals → Type 0
+EdgeHands cutLeft p l r S m X = (m ≡ r) × (X ≡ S)
+EdgeHands cutRight p l r S m X = (m ≡ l) × (X ≡ S)
+EdgeHands uncut p l r S m X = ((m ≡ l) × (X ≡ adding (plus p) S)) ⊎ ((m ≡ r) × (X ≡ adding (minus p) S))
+
+abbrev pub LinkHands : Link → Reach → ℕ → Literals → Type 0
+LinkHands n unreached m X = ⊥
+LinkHands (leaf line) (reached S) m X = ⊥
+LinkHands (join p l r) (reached S) m X = EdgeHands (cutOf p S) p l r S m X
+
+-- node n, a reached step, hands X to node m
+abbrev pub Hands : List Link → List Reach → ℕ → ℕ → Literals → Type 0
+Hands s table n m X = LinkHands (linkAt s n) (getD table n unreached) m X

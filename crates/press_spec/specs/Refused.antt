@@ -8,6 +8,7 @@ use Rattle.sheet.specs.declared.edition.Edition.{Edition}
 use Rattle.sheet.specs.Editions.{recordBytes, lineBytes, pressRecords}
 use Rattle.sheet.specs.Records.{Record}
 use Rattle.sheet.specs.Refusals.{Lent, LentRefused, LentFine, Place, RecordRefused}
+use Rattle.press_spec.specs.declared.Plan.{Plan}
 use Rattle.press_spec.specs.Judge.{Sizes}
 use Rattle.press_spec.specs.Press.{Call, sizesOf, refused, press}
 
@@ -30,6 +31,6 @@ Refuses e c n k =
 
 abbrev pub PressRefuses : Type 0
 PressRefuses =
-    (e : Edition) (c : Call) (n k : ℕ)
-    → (press e c .answer ≡ refused n k → Refuses e c n k)
-    × (Refuses e c n k → press e c .answer ≡ refused n k)
+    (plan : Plan) (c : Call) (n k : ℕ)
+    → (press plan c .answer ≡ refused n k → Refuses (plan .edition) c n k)
+    × (Refuses (plan .edition) c n k → press plan c .answer ≡ refused n k)

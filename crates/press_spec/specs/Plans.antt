@@ -1,0 +1,7 @@
+-- The plan of a press: the edition of its sheet, and the passes that are chosen.
+use Rattle.sheet.specs.declared.edition.Edition.{Edition}
+use Rattle.press_spec.specs.declared.Recycling.{Recycling}
+use Rattle.press_spec.specs.declared.Plan.{Plan}
+
+abbrev pub plan : Edition → Recycling → Plan
+plan e how = record { edition = e; recycling = how }
