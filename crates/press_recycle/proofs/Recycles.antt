@@ -11,18 +11,36 @@ use Rattle.base.proofs.Folds.{fall-all}
 use Rattle.clause.specs.Clauses.{Literals, plus, minus, adding}
 use Rattle.clause.specs.Denote.{literalsOf}
 use Rattle.clause.specs.declared.Clause.{Clause}
-use Rattle.press_recycle.specs.declared.reach.Reach.{Reach as CodeReach}
-use Rattle.press_recycle.specs.declared.reach.Reach.the-variants.{Unreached, Reached}
+use Rattle.press_reach.specs.declared.Reach.{Reach as CodeReach}
+use Rattle.press_reach.specs.declared.Reach.the-variants.{Unreached, Reached}
 use Rattle.press_nodes.specs.declared.fate.Cut.{Cut as CodeCut}
 use Rattle.press_nodes.specs.declared.fate.Cut.the-variants.{Left, Right, None}
+use Rattle.press_spec.specs.declared.Recycling.{Recycling}
+use Rattle.press_spec.specs.declared.Recycling.the-variants.{Reset, Intersection}
 use Rattle.press_spec.specs.Links.{Link, leaf, join, linkAt, sink}
-use Rattle.press_spec.specs.Recycle.{Reach, unreached, reached, Fit, hand, Cut, cutLeft, cutRight, uncut, cutOf, handOn, visit, recycleTurn, recycle, kept, fate, fates}
+use Rattle.press_spec.specs.Recycle.{Reach, unreached, reached, Fit, reset, intersect, fitOf, hand, Cut, cutLeft, cutRight, uncut, cutOf, handOn, visit, recycleTurn, recycle, kept, fate, fates}
 use Rattle.press_nodes.specs.Tables.{linksIn, clausesIn}
 use Rattle.press_nodes.specs.Fates.{cutIn, cutByte, fateOf, fatesIn}
-use Rattle.press_recycle.specs.Passes.{reachIn, reachesIn, Fated}
+use Rattle.press_reach.specs.Reaches.{reachIn, reachesIn}
+use Rattle.press_recycle.specs.Passes.{countIn, Fated}
 use Rattle.press_nodes.proofs.Tables.{links-length}
 use Rattle.press_nodes.proofs.Fated.{fate-byte, byte-some}
-use Rattle.press_recycle.proofs.Reaches.{reaches-length, reaches-same, reach-none, reach-some}
+use Rattle.press_reach.proofs.Reaches.{reaches-length, reaches-same, reach-none, reach-some}
+
+-- ---- a node that is handed a set
+
+-- a way to fit sets looks at the node's own uses alone
+fit-here : (how : Recycling) (count : ℕ → ℕ) (n : ℕ) (before : Reach) (S : Literals) → fitOf how (λ m. count n) 0 before S ≡ fitOf how count n before S
+unfolding fitOf reset intersect
+fit-here Reset count n before S = refl
+fit-here Intersection count n unreached S = refl
+fit-here Intersection count n (reached R) S = refl
+
+pub hand-fitted : (how : Recycling) (uses : List ℕ) (n i : ℕ) (S R : Literals) (before : CodeReach) (table next : List Reach) → i ≡ n
+    → reachIn before ≡ getD table n unreached → R ≡ fitOf how (λ m. getD uses i 0) 0 (reachIn before) S → next ≡ set table n (reached R)
+    → next ≡ hand (fitOf how (countIn uses)) n S table
+unfolding hand countIn
+hand-fitted how uses n i S R before table next same b f e = e ∙ rw (f, same, b, fit-here how (countIn uses) n (getD table n unreached) S)
 
 -- ---- a step that is reached
 

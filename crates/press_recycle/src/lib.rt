@@ -3,78 +3,40 @@
 ghost use mathlib.Core.Path.{_≡_};
 ghost use Prim.Native.Nat.{ℕ, suc, _≤_, _<_};
 ghost use lib.ListN.{length, getD, set};
-ghost use Rattle.clause.specs.Clauses.{adding};
-ghost use Rattle.clause.specs.Clauses as clauses;
 ghost use Rattle.clause.specs.Denote.{width, literalsOf};
 ghost use Rattle.press_spec.specs.Links.{sink};
-ghost use Rattle.press_spec.specs.Recycle.{unreached, reset, hand, cutOf, handOn, recycleTurn, recycle};
+ghost use Rattle.press_spec.specs.Recycle.{fitOf, hand, handOn, recycleTurn, recycle};
 ghost use Rattle.press_spec.specs.Recycle as recycling;
 ghost use Rattle.press_nodes.specs.Tables.{linksIn, clauseWords, Links};
 ghost use Rattle.press_nodes.specs.Fates.{cutIn, fatesIn};
-ghost use Rattle.press_recycle.specs.Passes.{countIn, reachesIn, Fated};
-use crate::reach::Reach;
+ghost use Rattle.press_reach.specs.Reaches.{reachesIn};
+ghost use Rattle.press_recycle.specs.Passes.{countIn, Fated};
 use clause::Clause;
 use press_nodes::fate;
 use press_nodes::fate::Cut;
 use press_nodes::link;
 use press_nodes::link::Link;
+use press_reach::Reach;
+use press_reach::edges;
+use press_reach::fit;
+use press_spec::Recycling;
 use sheet::NodeNo;
 
-mod reach;
-
-// "If -p is in S, the left edge is cut ..; else if +p is in S, the right edge is cut .."
-fn cut_of(p: u8, s: Clause) -> Cut
-    ensures { λ r. ⌜ cutIn r ≡ cutOf p (literalsOf s) ⌝ }
-{
-    if clause::has(s.negative, p) {
-        return Cut::Left;
-    }
-    if clause::has(s.positive, p) {
-        return Cut::Right;
-    }
-    Cut::None
-}
-
-fn with_plus(s: Clause, p: u8) -> Clause
-    requires { ⌜ p < width ⌝ }
-    ensures { λ r. ⌜ literalsOf r ≡ adding (clauses.plus p) (literalsOf s) ⌝ }
-{
-    let positive = clause::with(s.positive, p);
-    let negative = s.negative;
-    Clause { positive, negative }
-}
-
-fn with_minus(s: Clause, p: u8) -> Clause
-    requires { ⌜ p < width ⌝ }
-    ensures { λ r. ⌜ literalsOf r ≡ adding (clauses.minus p) (literalsOf s) ⌝ }
-{
-    let positive = s.positive;
-    let negative = clause::with(s.negative, p);
-    Clause { positive, negative }
-}
-
-// "A node with two or more uses has S empty. Otherwise S comes from its only use."
-fn fitted(uses: u16, s: Clause) -> Clause
-    ensures { λ r. ⌜ literalsOf r ≡ reset (λ m. uses) 0 unreached (literalsOf s) ⌝ }
-{
-    if uses < 2 {
-        return s;
-    }
-    clause::nothing()
-}
-
-fn hand(uses: &[u16], n: NodeNo, s: Clause, fates: &mut [u8], sets: &mut [u64])
+fn hand(how: Recycling, uses: &[u16], n: NodeNo, s: Clause, fates: &mut [u8], sets: &mut [u64])
     requires { ⌜ (length (now fates) ≡ length (now uses)) × (length (now sets) ≡ clauseWords (length (now uses))) × (n .0 < length (now uses)) ⌝ }
-    ensures reaches { λ _. ⌜ reachesIn (now (fates .exit)) (now (sets .exit)) ≡ hand (reset (countIn (now (uses .entry)))) (n .0) (literalsOf s) (reachesIn (now (fates .entry)) (now (sets .entry))) ⌝ }
+    ensures reaches { λ _. ⌜ reachesIn (now (fates .exit)) (now (sets .exit)) ≡ hand (fitOf how (countIn (now (uses .entry)))) (n .0) (literalsOf s) (reachesIn (now (fates .entry)) (now (sets .entry))) ⌝ }
     ensures bytes { λ _. ⌜ now (fates .exit) ≡ set (now (fates .entry)) (n .0) 1 ⌝ }
 {
     let i = n.index();
-    reach::put_reach(fates, sets, n, fitted(uses[i], s));
+    let before = press_reach::reach_at(fates, sets, n);
+    let next = fit::fitted(how, uses[i], before, s);
+    press_reach::put_reach(fates, sets, n, next);
 }
 
 // "The left edge is cut and the right parent gets S; .. the right edge is cut and the left parent gets S; else left gets S with +p, right
 // gets S with -p."
 fn hand_on(
+    how: Recycling,
     uses: &[u16],
     cut: Cut,
     p: u8,
@@ -86,35 +48,42 @@ fn hand_on(
 )
     requires { ⌜ (length (now fates) ≡ length (now uses)) × (length (now sets) ≡ clauseWords (length (now uses))) ⌝ }
     requires { ⌜ (p < width) × (l .0 < length (now uses)) × (r .0 < length (now uses)) ⌝ }
-    ensures reaches { λ _. ⌜ reachesIn (now (fates .exit)) (now (sets .exit)) ≡ handOn (reset (countIn (now (uses .entry)))) (cutIn cut) p (l .0) (r .0) (literalsOf s) (reachesIn (now (fates .entry)) (now (sets .entry))) ⌝ }
+    ensures reaches { λ _. ⌜ reachesIn (now (fates .exit)) (now (sets .exit)) ≡ handOn (fitOf how (countIn (now (uses .entry)))) (cutIn cut) p (l .0) (r .0) (literalsOf s) (reachesIn (now (fates .entry)) (now (sets .entry))) ⌝ }
     ensures bytes { λ _. ⌜ ((m : ℕ) → l .0 < m → r .0 < m → getD (now (fates .exit)) m 0 ≡ getD (now (fates .entry)) m 0) ⌝ }
 {
     match cut {
         Cut::Left => {
-            hand(uses, r, s, fates, sets);
+            hand(how, uses, r, s, fates, sets);
             return;
         }
         Cut::Right => {
-            hand(uses, l, s, fates, sets);
+            hand(how, uses, l, s, fates, sets);
             return;
         }
         Cut::None => {
-            hand(uses, l, with_plus(s, p), fates, sets);
-            hand(uses, r, with_minus(s, p), fates, sets);
+            hand(how, uses, l, edges::with_plus(s, p), fates, sets);
+            hand(how, uses, r, edges::with_minus(s, p), fates, sets);
             return;
         }
     }
 }
 
 // The turn at node n, whose set is final: its fate is stored, and its parents are handed theirs.
-fn recycle_turn(links: &[u64], uses: &[u16], n: NodeNo, fates: &mut [u8], sets: &mut [u64])
+fn recycle_turn(
+    how: Recycling,
+    links: &[u64],
+    uses: &[u16],
+    n: NodeNo,
+    fates: &mut [u8],
+    sets: &mut [u64],
+)
     requires { ⌜ Links (now links) ⌝ }
     requires { ⌜ (length (now uses) ≡ length (now links)) × (length (now fates) ≡ length (now links)) × (length (now sets) ≡ clauseWords (length (now links))) × (n .0 < length (now links)) ⌝ }
     requires { ⌜ Fated (linksIn (now links)) (now fates) (now sets) (suc (n .0)) ⌝ }
-    ensures reaches { λ _. ⌜ reachesIn (now (fates .exit)) (now (sets .exit)) ≡ recycleTurn (reset (countIn (now (uses .entry)))) (linksIn (now (links .entry))) (n .0) (reachesIn (now (fates .entry)) (now (sets .entry))) ⌝ }
+    ensures reaches { λ _. ⌜ reachesIn (now (fates .exit)) (now (sets .exit)) ≡ recycleTurn (fitOf how (countIn (now (uses .entry)))) (linksIn (now (links .entry))) (n .0) (reachesIn (now (fates .entry)) (now (sets .entry))) ⌝ }
     ensures fated { λ _. ⌜ Fated (linksIn (now (links .entry))) (now (fates .exit)) (now (sets .exit)) (n .0) ⌝ }
 {
-    let handed = reach::reach_at(fates, sets, n);
+    let handed = press_reach::reach_at(fates, sets, n);
     let Reach::Reached(s) = handed else {
         return;
     };
@@ -123,23 +92,30 @@ fn recycle_turn(links: &[u64], uses: &[u16], n: NodeNo, fates: &mut [u8], sets: 
         fate::put_fate(fates, n, Cut::None);
         return;
     };
-    let cut = cut_of(pivot, s);
+    let cut = edges::cut_of(pivot, s);
     fate::put_fate(fates, n, cut);
-    hand_on(uses, cut, pivot, left, right, s, fates, sets);
+    hand_on(how, uses, cut, pivot, left, right, s, fates, sets);
 }
 
-// What becomes of each node, where `own` is the sink's clause. The sets S stand in `sets`, and what it held before never matters.
-pub fn recycle(links: &[u64], own: Clause, uses: &[u16], fates: &mut [u8], sets: &mut [u64])
+// What becomes of each node by the recycling `how`, where `own` is the sink's clause. The sets S stand in `sets`, and what it held before never matters.
+pub fn recycle(
+    how: Recycling,
+    links: &[u64],
+    own: Clause,
+    uses: &[u16],
+    fates: &mut [u8],
+    sets: &mut [u64],
+)
     requires { ⌜ Links (now links) ⌝ }
     requires { ⌜ (length (now uses) ≡ length (now links)) × (length (now fates) ≡ length (now links)) × (length (now sets) ≡ clauseWords (length (now links))) × (0 < length (now links)) ⌝ }
-    ensures { λ _. ⌜ (let t = linksIn (now (links .entry)) in fatesIn (now (fates .exit)) ≡ recycling.fates t (recycle (reset (countIn (now (uses .entry)))) (literalsOf own) t (sink t))) ⌝ }
+    ensures { λ _. ⌜ (let t = linksIn (now (links .entry)) in fatesIn (now (fates .exit)) ≡ recycling.fates t (recycle (fitOf how (countIn (now (uses .entry)))) (literalsOf own) t (sink t))) ⌝ }
 {
     let n = links.len() as u16;
     let sink = n - 1;
-    reach::reach_only(fates, sets, NodeNo(sink), own);
+    press_reach::reach_only(fates, sets, NodeNo(sink), own);
     let mut i = n;
     while 0 < i {
         i -= 1;
-        recycle_turn(links, uses, NodeNo(i), fates, sets);
+        recycle_turn(how, links, uses, NodeNo(i), fates, sets);
     }
 }

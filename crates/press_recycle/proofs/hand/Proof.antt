@@ -1,10 +1,13 @@
-use Rattle.press_recycle.proofs.Reaches.{hand-fitted}
+use Rattle.press_recycle.proofs.Recycles.{hand-fitted}
 use borrow.Author.Needs.{needs}
 use Rattle.press_recycle.proofs.hand.Statement.{statement}
 use Rattle.press_recycle.proofs.hand.Tie as tie
 
 index-requires : tie.Need-index-requires
 index-requires c κs = search needs
+
+reach-at-requires : tie.Need-reach-at-requires
+reach-at-requires c κs = search needs
 
 mul-fitted : tie.Need-mul-fitted
 mul-fitted c = search needs
@@ -32,6 +35,7 @@ hand-spec =
     tie.close
     (tie.spec
     index-requires
+    reach-at-requires
     mul-fitted
     shared-slice-read-fitted
     fitted-requires

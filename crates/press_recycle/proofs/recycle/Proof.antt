@@ -4,24 +4,25 @@ use native.Mathlib.Omega.{arith}
 use lib.ListN.{length}
 use Rattle.base.specs.Folds.{fall}
 use Rattle.base.proofs.Folds.{fall-next}
-use Rattle.press_spec.specs.Recycle.{reset, recycleTurn}
+use Rattle.press_spec.specs.Recycle.{fitOf, recycleTurn}
 use Rattle.press_nodes.specs.Tables.{linksIn, clauseWords}
-use Rattle.press_recycle.specs.Passes.{countIn, reachesIn, Fated}
+use Rattle.press_reach.specs.Reaches.{reachesIn}
+use Rattle.press_recycle.specs.Passes.{countIn, Fated}
 use Rattle.press_recycle.proofs.Recycles.{fated-start, fates-done}
 use borrow.Author.Needs.{needs}
 use Rattle.press_recycle.proofs.recycle.Statement.{statement}
 use Rattle.press_recycle.proofs.recycle.Tie as tie
 
 abbrev Inv-loop : tie.InvT-loop
-Inv-loop links uses fates₀ sets₀ n sink i₀ fates sets i = (i ≤ length links)
+Inv-loop how links uses fates₀ sets₀ n sink i₀ fates sets i = (i ≤ length links)
     × (length fates ≡ length links)
     × (length sets ≡ clauseWords (length links))
-    × (fall (recycleTurn (reset (countIn uses)) (linksIn links)) i (reachesIn fates sets)
-    ≡ fall (recycleTurn (reset (countIn uses)) (linksIn links)) (length links) (reachesIn fates₀ sets₀))
+    × (fall (recycleTurn (fitOf how (countIn uses)) (linksIn links)) i (reachesIn fates sets)
+    ≡ fall (recycleTurn (fitOf how (countIn uses)) (linksIn links)) (length links) (reachesIn fates₀ sets₀))
     × Fated (linksIn links) fates sets i
 
 abbrev μ-loop : tie.MeasureT-loop
-μ-loop links uses fates₀ sets₀ n sink i₀ fates sets i = i
+μ-loop how links uses fates₀ sets₀ n sink i₀ fates sets i = i
 
 cast-n : tie.Need-cast-n Inv-loop μ-loop
 cast-n c = search needs

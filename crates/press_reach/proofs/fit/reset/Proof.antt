@@ -1,8 +1,8 @@
 use borrow.Author.Tests.{lt-ltb, le-ltb}
 use Rattle.press_spec.specs.Recycle.{reset}
 use borrow.Author.Needs.{needs}
-use Rattle.press_recycle.proofs.fitted.Statement.{statement}
-use Rattle.press_recycle.proofs.fitted.Tie as tie
+use Rattle.press_reach.proofs.fit.reset.Statement.{statement}
+use Rattle.press_reach.proofs.fit.reset.Tie as tie
 
 returns : tie.Need-returns
 unfolding reset
@@ -15,5 +15,5 @@ returns-2 : tie.Need-returns-2
 unfolding reset
 returns-2 c = rw (le-ltb _ _ (c .before .if1 .left)) (c .nothing .ensures)
 
-pub fitted-spec : {M : Type 1} → statement M
-fitted-spec = tie.close (tie.spec returns nothing-requires returns-2)
+pub reset-spec : {M : Type 1} → statement M
+reset-spec = tie.close (tie.spec returns nothing-requires returns-2)

@@ -2,8 +2,8 @@ use Rattle.clause.specs.Clauses.{holds}
 use Rattle.press_spec.specs.Recycle.{cutOf}
 use Rattle.press_nodes.specs.Fates.{cutIn}
 use borrow.Author.Needs.{needs}
-use Rattle.press_recycle.proofs.cut_of.Statement.{statement}
-use Rattle.press_recycle.proofs.cut_of.Tie as tie
+use Rattle.press_reach.proofs.edges.cut_of.Statement.{statement}
+use Rattle.press_reach.proofs.edges.cut_of.Tie as tie
 
 has-requires : tie.Need-has-requires
 has-requires c κs = search needs

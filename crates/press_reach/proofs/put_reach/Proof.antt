@@ -1,7 +1,7 @@
-use Rattle.press_recycle.proofs.Reaches.{reach-put}
+use Rattle.press_reach.proofs.Reaches.{reach-put}
 use borrow.Author.Needs.{needs}
-use Rattle.press_recycle.proofs.reach.put_reach.Statement.{statement}
-use Rattle.press_recycle.proofs.reach.put_reach.Tie as tie
+use Rattle.press_reach.proofs.put_reach.Statement.{statement}
+use Rattle.press_reach.proofs.put_reach.Tie as tie
 
 index-requires : tie.Need-index-requires
 index-requires c κs = search needs

@@ -1,4 +1,4 @@
--- Laws of the tables of reaches, and of handing a set to a node. For `search` in the turns of recycling.
+-- Laws of the tables of reaches. For `search` in the proofs of their functions and in the turns of recycling.
 use Prim.Native.Nat.{ℕ, zero, suc, _<_}
 use mathlib.Core.Path.{_≡_, refl, ap, _∙_}
 use mathlib.Core.List.{List, [], _∷_}
@@ -6,10 +6,10 @@ use native.Mathlib.Omega.{arith}
 use lib.ListN.{length, getD, set, replicate}
 use borrow.Author.Tests.{eq-eqb, ne-eqb}
 use Rattle.clause.specs.Clauses.{Literals}
-use Rattle.press_spec.specs.Recycle.{Reach, unreached, reached, reset, hand}
+use Rattle.press_spec.specs.Recycle.{Reach, unreached, reached}
 use Rattle.press_nodes.specs.Tables.{clausesIn, beside, changed}
 use Rattle.press_nodes.proofs.Tables.{beside-length, beside-at, beside-set}
-use Rattle.press_recycle.specs.Passes.{countIn, reachOf, reachesIn}
+use Rattle.press_reach.specs.Reaches.{reachOf, reachesIn}
 
 -- every byte 0: nothing is reached, whatever the sets hold
 blank : (n : ℕ) (g : ℕ → Literals) → beside reachOf (replicate n 0) g ≡ replicate n unreached
@@ -57,9 +57,3 @@ module _ (bytes sets : List ℕ) where
       pub reach-some : (c : Literals) → (getD bytes i 0 ≡ 0 → ⊥) → c ≡ clausesIn sets n → reached c ≡ getD (reachesIn bytes sets) n unreached
       unfolding reachOf
       reach-some c h e = rw (reach-here, ne-eqb (getD bytes i 0) 0 h, e)
-
-pub hand-fitted : (uses : List ℕ) (n i : ℕ) (S R : Literals) (table next : List Reach) → i ≡ n
-    → R ≡ reset (λ m. getD uses i 0) 0 unreached S → next ≡ set table n (reached R)
-    → next ≡ hand (reset (countIn uses)) n S table
-unfolding hand reset countIn
-hand-fitted uses n i S R table next same f e = e ∙ rw (f, same)

@@ -2,8 +2,8 @@ use Rattle.clause.specs.Clauses.{adding}
 use Rattle.clause.specs.Denote.{width}
 use Rattle.clause.proofs.Words.{withBelow-with}
 use borrow.Author.Needs.{needs}
-use Rattle.press_recycle.proofs.with_plus.Statement.{statement}
-use Rattle.press_recycle.proofs.with_plus.Tie as tie
+use Rattle.press_reach.proofs.edges.with_plus.Statement.{statement}
+use Rattle.press_reach.proofs.edges.with_plus.Tie as tie
 
 with-requires : tie.Need-with-requires
 with-requires c κs = search needs

@@ -1,7 +1,7 @@
-use Rattle.press_recycle.proofs.Reaches.{reach-start}
+use Rattle.press_reach.proofs.Reaches.{reach-start}
 use borrow.Author.Needs.{needs}
-use Rattle.press_recycle.proofs.reach.reach_only.Statement.{statement}
-use Rattle.press_recycle.proofs.reach.reach_only.Tie as tie
+use Rattle.press_reach.proofs.reach_only.Statement.{statement}
+use Rattle.press_reach.proofs.reach_only.Tie as tie
 
 clear-marks-requires : tie.Need-clear-marks-requires
 clear-marks-requires c κs = search needs

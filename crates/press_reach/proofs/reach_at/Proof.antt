@@ -1,8 +1,8 @@
-use Rattle.press_recycle.specs.Passes.{reachIn}
-use Rattle.press_recycle.proofs.Reaches.{reach-none, reach-some}
+use Rattle.press_reach.specs.Reaches.{reachIn}
+use Rattle.press_reach.proofs.Reaches.{reach-none, reach-some}
 use borrow.Author.Needs.{needs}
-use Rattle.press_recycle.proofs.reach.reach_at.Statement.{statement}
-use Rattle.press_recycle.proofs.reach.reach_at.Tie as tie
+use Rattle.press_reach.proofs.reach_at.Statement.{statement}
+use Rattle.press_reach.proofs.reach_at.Tie as tie
 
 index-requires : tie.Need-index-requires
 index-requires c κs = search needs
