@@ -23,14 +23,8 @@ use Rattle.press_passes.proofs.run_passes.Tie as tie
 -- ---- what is known after each pass: the table that it filled, lent again, and what stands in it
 
 module _ (st : tie.Start) where
-  abbrev links : List ℕ
-  links = st .args .links .now
-
-  abbrev clauses : List ℕ
-  clauses = st .args .clauses .now
-
   abbrev n : ℕ
-  n = length links
+  n = length (st .args .links .now)
 
   few : n ≤ capacity
   few = st .pre .0 .0 .linked .few
@@ -47,23 +41,23 @@ module _ (b : tie.After-shorten) where
   shortening = b .before .before .before .before .before .before .before .before .before
 
   abbrev links′ : List ℕ
-  links′ = b .shorten .last .0
+  links′ = b .shorten .last .1 .0
 
   abbrev clauses′ : List ℕ
-  clauses′ = b .shorten .last .1 .0
+  clauses′ = b .shorten .last .1 .1 .0
 
   abbrev from : ℕ
   from = b .shorten .result .0
 
   abbrev leftover : List ℕ
-  leftover = b .shorten .last .1 .1 .0
+  leftover = b .shorten .last .1 .1 .1 .0
 
   -- the table of sets, with what recycling left there
   abbrev sets : List ℕ
   sets = leftover ++ drop (b .before .before .before .before .words-for .result) (replicate (clauseWords capacity) 0)
 
   sets-long : length sets ≡ clauseWords capacity
-  sets-long = length-front (replicate (clauseWords capacity) 0) leftover (b .before .before .before .before .words-for .result) (b .shorten .kept .1 .1 .0) ∙ length-replicate {A = ℕ} (clauseWords capacity) 0
+  sets-long = length-front (replicate (clauseWords capacity) 0) leftover (b .before .before .before .before .words-for .result) (b .shorten .kept .1 .1 .1 .0) ∙ length-replicate {A = ℕ} (clauseWords capacity) 0
 
 module _ (o : tie.After-order-from) where
   abbrev short : tie.After-shorten
@@ -155,7 +149,7 @@ module _ (y : tie.After-lay) where
   pressed-tables = arranged-nodes (tables placed) (from (short placed)) (short placed .shorten .ensures .0 .1) pressedLinks pressedClauses laid-out sizes
 
   lent : nodesIn (take (count placed) (pressedLinks ++ drop (count placed) (replicate capacity 0))) (take words (pressedClauses ++ drop words (sets (short placed))))
-      ≡ pressed (nodesIn (links (ordering placed)) (clauses (ordering placed)))
+      ≡ pressed (ordering placed .args .plan) (nodesIn (ordering placed .args .links .now) (ordering placed .args .clauses .now))
   lent = ap₂ nodesIn links-again clauses-again ∙ laid-out ∙ short placed .shorten .ensures .1
 
 words-for-requires : tie.Need-words-for-requires
@@ -179,7 +173,7 @@ slice-aggregate-order-from c = sym (lent-long capacity _ (few (c .before .before
 
 order-from-requires : tie.Need-order-from-requires
 order-from-requires c κs = let b = c .before .before .before .before .before .before .before in
-    (b .shorten .ensures .0 .0 .linked, (lent-long capacity _ (few (c .before .before .before .before .before .before .before .before .before .before .before .before .before .before .before .before)) ∙ sym (b .shorten .kept .0), b .shorten .ensures .0 .1))
+    (b .shorten .ensures .0 .0 .linked, (lent-long capacity _ (few (c .before .before .before .before .before .before .before .before .before .before .before .before .before .before .before .before)) ∙ sym (b .shorten .kept .1 .0), b .shorten .ensures .0 .1))
 
 cast-kept : tie.Need-cast-kept
 cast-kept c = search needs
@@ -211,7 +205,7 @@ lay-requires c κs = let w = c .before .before .before .before .before in
       tables o,
       (
         record { order = order o; orderly = orderly o; numbered = numbered o; fills = sym (room o ∙ count-is o) },
-        (length-take-le _ _ (numbers-long o) ∙ sym (short o .shorten .kept .0), pressed-room w ∙ w .words-for2 .ensures ∙ ap clauseWords (sym (room o))),
+        (length-take-le _ _ (numbers-long o) ∙ sym (short o .shorten .kept .1 .0), pressed-room w ∙ w .words-for2 .ensures ∙ ap clauseWords (sym (room o))),
       ),
     )
 
@@ -231,13 +225,13 @@ write-requires : tie.Need-write-requires
 write-requires c κs = let y = c .before .before .before .before .before .before in
     let st = c .before .before .before .before .before .before .before .before .before .before .before .before .before .before .before .before .before .before .before .before .before .before .before .before .before .before .before .before .before .before .before in
     let a = st .args in
-    (rw (links-again y, clauses-again y) (pressed-tables y), subst (λ (s : List Node). Emittable (a .edition) (a .lines) s (a .out .now) (a .marks .now)) (sym (lent y)) (st .pre .1))
+    (rw (links-again y, clauses-again y) (pressed-tables y), subst (λ (s : List Node). Emittable (a .plan .edition) (a .lines) s (a .out .now) (a .marks .now)) (sym (lent y)) (st .pre .1))
 
 same-length : tie.Need-same-length
-same-length c = c .before .before .before .before .before .before .before .before .before .before .before .before .before .before .before .before .before .before .before .before .before .before .before .before .before .before .before .shorten .kept .0
+same-length c = c .before .before .before .before .before .before .before .before .before .before .before .before .before .before .before .before .before .before .before .before .before .before .before .before .before .before .before .shorten .kept .1 .0
 
 same-length-2 : tie.Need-same-length-2
-same-length-2 c = c .before .before .before .before .before .before .before .before .before .before .before .before .before .before .before .before .before .before .before .before .before .before .before .before .before .before .before .shorten .kept .1 .0
+same-length-2 c = c .before .before .before .before .before .before .before .before .before .before .before .before .before .before .before .before .before .before .before .before .before .before .before .before .before .before .before .shorten .kept .1 .1 .0
 
 same-length-3 : tie.Need-same-length-3
 same-length-3 c = search needs
@@ -252,7 +246,7 @@ returns c = let st = c .before .before .before .before .before .before .before .
     let same = lent (c .before .before .before .before .before .before .before .before .before .before .before) in (
       e .0 ∙ ap (report (a .lines)) same,
       (
-        e .1 .0 ∙ ap (λ (s : List Node). put (a .out .now) 0 (sheetBytes (a .edition) (withDrops s))) same,
+        e .1 .0 ∙ ap (λ (s : List Node). put (a .out .now) 0 (sheetBytes (a .plan .edition) (withDrops s))) same,
         e .1 .1 ∙ ap (λ (s : List Node). put (a .marks .now) 0 (core (a .lines) s)) same,
       ),
     )

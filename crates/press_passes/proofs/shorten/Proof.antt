@@ -52,13 +52,13 @@ module _ (r : tie.After-recycle) where
   recycling = r .before .before .before .before .before .before .before .before .before .before .before .before .before .before
 
   abbrev fates : List ℕ
-  fates = r .recycle .last .1 .1 .1 .0
+  fates = r .recycle .last .1 .1 .1 .1 .0
 
   fates-long : n recycling ≤ length (fates ++ drop (n recycling) (replicate capacity 0))
-  fates-long = front-long (replicate capacity 0) fates (n recycling) (r .recycle .kept .1 .1 .1 .0) (few recycling)
+  fates-long = front-long (replicate capacity 0) fates (n recycling) (r .recycle .kept .1 .1 .1 .1 .0) (few recycling)
 
   fates-again : take (n recycling) (fates ++ drop (n recycling) (replicate capacity 0)) ≡ fates
-  fates-again = front-again (replicate capacity 0) fates (n recycling) (r .recycle .kept .1 .1 .1 .0) (few recycling)
+  fates-again = front-again (replicate capacity 0) fates (n recycling) (r .recycle .kept .1 .1 .1 .1 .0) (few recycling)
 
 module _ (b : tie.After-rebuild) where
   abbrev building : tie.Start
@@ -92,11 +92,11 @@ module _ (b : tie.After-rebuild) where
   below : from < length links′
   below = from-below (building .pre .0) links′ clauses′ _ _ (b .rebuild .ensures) from read (some building) long
 
-  passed : laid (nodesIn links′ clauses′) (orderFrom (linksIn links′) from) ≡ pressed (nodesIn (links building) (clauses building))
+  passed : laid (nodesIn links′ clauses′) (orderFrom (linksIn links′) from) ≡ pressed (building .args .plan) (nodesIn (links building) (clauses building))
   passed =
       let counted = b .before .before .before .before .before .before .before .before .before .before .before .before .before .before .before .before in
       let recycled = b .before .before .before .before .before .before .before .before in
-      from-pressed (building .pre .0) links′ clauses′ _ _ (b .rebuild .ensures) from read (some building) _
+      from-pressed (building .pre .0) links′ clauses′ _ _ (b .rebuild .ensures) from read _ (some building) _
       (λ m. rw (counts-again counted) (counted .uses-from .ensures m)) _ (b .before .before .before .before .before .before .before .before .before .before .before .before .before .clause-at .ensures)
       (ap fatesIn (fates-again recycled) ∙ recycled .recycle .ensures)
 
@@ -165,7 +165,7 @@ same-length-2 : tie.Need-same-length-2
 same-length-2 c = c .before .before .before .before .before .rebuild .kept .1 .0
 
 same-length-3 : tie.Need-same-length-3
-same-length-3 c = c .before .before .before .before .before .before .before .before .before .before .before .before .before .recycle .kept .1 .1 .1 .1 .0
+same-length-3 c = c .before .before .before .before .before .before .before .before .before .before .before .before .before .recycle .kept .1 .1 .1 .1 .1 .0
 
 returns : tie.Need-returns
 returns c = let b = c .before .before .before .before .before in ((tables b, below b), passed b)
