@@ -25,6 +25,8 @@ use Rattle.sheet.proofs.Refused.{first-applies}
 use Rattle.replay_spec.specs.Replay as Replay
 use Rattle.replay_spec.specs.Refused as ReplayRefused
 use Rattle.replay_spec.proofs.Refuses.{replay-refuses}
+use Rattle.press_spec.specs.declared.Plan.{Plan}
+use Rattle.press_spec.specs.Plans.{plan}
 use Rattle.press_spec.specs.Judge.{checkPress}
 use Rattle.press_spec.specs.Press as Press
 use Rattle.press_spec.specs.Refused as PressRefused
@@ -72,16 +74,16 @@ module _ (e : Edition) (n s : ℕ) (size : s ≡ recordBytes e * n) where
       let whole : s % recordBytes e ≡ 0 = rw size (mul-mod-right (recordBytes e) n) in
       rw (eq-eqb (s % recordBytes e) 0 whole, ne-eqb s 0 (λ z. omega arith), lt-leb (s / recordBytes e) most (omega (arith, count, over)))
 
-press-takes : (e : Edition) (n : ℕ) → n ≤ pressRecords e → PressTakes e n
-press-takes e n few c k size a = by-case (press-refuses e c 3 k .0 a)
+press-takes : (by : Plan) (n : ℕ) → n ≤ pressRecords (by .edition) → PressTakes by n
+press-takes by n few c k size a = by-case (press-refuses by c 3 k .0 a)
   where
-    by-case : PressRefused.Refuses e c 3 k → ⊥
-    by-case (inl lent) = lengths-not-3 e n (length (c .sheet)) size _ k refl refl few lent
+    by-case : PressRefused.Refuses (by .edition) c 3 k → ⊥
+    by-case (inl lent) = lengths-not-3 (by .edition) n (length (c .sheet)) size _ k refl refl few lent
     by-case (inr (rs, fine, r)) = record-not-3 _ _ k r
 
-press-turns-away : (e : Edition) (n : ℕ) → pressRecords e < n → PressTurnsAway e n
+press-turns-away : (by : Plan) (n : ℕ) → pressRecords (by .edition) < n → PressTurnsAway by n
 unfolding Press.press Press.byLengths Press.refuse checkPress andThen numberOf
-press-turns-away e n over c size = rw (too-long e n (length (c .sheet)) size (pressRecords e) (length (c .rules)) over)
+press-turns-away by n over c size = rw (too-long (by .edition) n (length (c .sheet)) size (pressRecords (by .edition)) (length (c .rules)) over)
 
 replay-takes : (e : Edition) (n : ℕ) → n ≤ replayRecords e → ReplayTakes e n
 replay-takes e n few sheet rules slots k size a = by-case (replay-refuses e sheet rules slots 3 k .0 a)
@@ -95,10 +97,11 @@ replay-turns-away : (e : Edition) (n : ℕ) → replayRecords e < n → ReplayTu
 unfolding Replay.replay Replay.byLengths numberOf
 replay-turns-away e n over sheet rules slots size = rw (too-long e n (length sheet) size (replayRecords e) (length rules) over)
 
-press-fills : (e : Edition) (n : ℕ) → n ≤ pressRecords e → 0 < n → PressFills e n
-press-fills e n few some rules out marks line room each =
+press-fills : (by : Plan) (n : ℕ) → n ≤ pressRecords (by .edition) → 0 < n → PressFills by n
+press-fills by n few some rules out marks line room each =
+    let e = by .edition in
     let long : length (copies e rules n) ≡ n = length-replicate n _ in
-    press-accepts-proper e (Press.call (sheetBytes e (copies e rules n)) rules out marks) .0 (copies e rules n)
+    press-accepts-proper by (Press.call (sheetBytes e (copies e rules n)) rules out marks) .0 (copies e rules n)
     (copies-proper e rules line n (pressRecords e) false some few, rw long room, each)
 
 replay-fills : (e : Edition) (n : ℕ) → n ≤ replayRecords e → 0 < n → ReplayFills e n
@@ -113,11 +116,11 @@ replay-fills e n few some rules slots line enough =
     })
 
 pub limits : Limits
-limits e n = (
-  (λ h. (press-takes e n (omega (arith, h)), press-fills e n (omega (arith, h)))),
-  (λ h. press-turns-away e n (omega (arith, h))),
-  (λ h. (replay-takes e n (omega (arith, h)), replay-fills e n (omega (arith, h)))),
-  (λ h. replay-turns-away e n (omega (arith, h))),
+limits by n = (
+  (λ h. (press-takes by n (omega (arith, h)), press-fills by n (omega (arith, h)))),
+  (λ h. press-turns-away by n (omega (arith, h))),
+  (λ h. (replay-takes (by .edition) n (omega (arith, h)), replay-fills (by .edition) n (omega (arith, h)))),
+  (λ h. replay-turns-away (by .edition) n (omega (arith, h))),
 )
 
 -- the last number that is not over a limit, and the first that is
@@ -133,12 +136,16 @@ told most last first q =
 press-limit : (e : Edition) {last first : ℕ} → beside (pressRecords e) last first ≡ true → PressLimit e last first
 press-limit e {last} {first} q =
     let (some, few, over) = told (pressRecords e) last first q in
-    record { takes = limits e last .0 few .0; fills = limits e last .0 few .1 some; turns-away = limits e first .1 over }
+    record {
+      takes = λ how. limits (plan e how) last .0 few .0;
+      fills = λ how. limits (plan e how) last .0 few .1 some;
+      turns-away = λ how. limits (plan e how) first .1 over;
+    }
 
 replay-limit : (e : Edition) {last first : ℕ} → beside (replayRecords e) last first ≡ true → ReplayLimit e last first
 replay-limit e {last} {first} q =
     let (some, few, over) = told (replayRecords e) last first q in
-    record { takes = limits e last .2 few .0; fills = limits e last .2 few .1 some; turns-away = limits e first .3 over }
+    record { takes = replay-takes e last few; fills = replay-fills e last few some; turns-away = replay-turns-away e first over }
 
 -- by computing
 pub at-the-limits : AtTheLimits

@@ -7,7 +7,7 @@ use Rattle.press_spec.proofs.Nodes.{links-falling, proper-falling}
 use Rattle.press_spec.proofs.Kept.{sink-inside}
 use Rattle.press_spec.proofs.Reached.{one-reached, reached-one, unreached-zero}
 use Rattle.press_spec.proofs.Accepts.{proper-nodes}
-use Rattle.demands.specs.Demands.{TrimKeeps}
+use Rattle.demands.specs.Passes.{TrimKeeps}
 
 pub trim-keeps : TrimKeeps
 trim-keeps e sheet rules rs n p =

@@ -12,13 +12,16 @@ use Rattle.sheet.specs.Records.{given, Record, node}
 use Rattle.sheet.specs.Fields.{sheetBytes, ruleLines, ruleLine}
 use Rattle.replay_spec.specs.Slots.{Slot}
 use Rattle.replay_spec.specs.Replay as Replay
+use Rattle.press_spec.specs.declared.Recycling.{Recycling}
+use Rattle.press_spec.specs.declared.Plan.{Plan}
+use Rattle.press_spec.specs.Plans.{plan}
 use Rattle.press_spec.specs.Press as Press
 use Rattle.press_spec.specs.Press.{Call, Report}
 use Rattle.demands.specs.Demands.{Bytes}
 
 -- so many records are not too many: if the answer is a refusal, its number is not 3
-abbrev pub PressTakes : Edition → ℕ → Type 0
-PressTakes e n = (c : Call) (k : ℕ) → length (c .sheet) ≡ recordBytes e * n → Press.press e c .answer ≡ Press.refused 3 k → ⊥
+abbrev pub PressTakes : Plan → ℕ → Type 0
+PressTakes plan n = (c : Call) (k : ℕ) → length (c .sheet) ≡ recordBytes (plan .edition) * n → Press.press plan c .answer ≡ Press.refused 3 k → ⊥
 
 abbrev pub ReplayTakes : Edition → ℕ → Type 0
 ReplayTakes e n =
@@ -28,8 +31,8 @@ ReplayTakes e n =
     → ⊥
 
 -- so many are: the answer is 3 at record 0, and what was lent is as it was
-abbrev pub PressTurnsAway : Edition → ℕ → Type 0
-PressTurnsAway e n = (c : Call) → length (c .sheet) ≡ recordBytes e * n → Press.press e c ≡ Press.outcome (Press.refused 3 0) (c .out) (c .marks)
+abbrev pub PressTurnsAway : Plan → ℕ → Type 0
+PressTurnsAway plan n = (c : Call) → length (c .sheet) ≡ recordBytes (plan .edition) * n → Press.press plan c ≡ Press.outcome (Press.refused 3 0) (c .out) (c .marks)
 
 abbrev pub ReplayTurnsAway : Edition → ℕ → Type 0
 ReplayTurnsAway e n =
@@ -50,13 +53,14 @@ pub record HasLine (e : Edition) (rules : List ℕ) : Type 0 where
   pub some : 0 < ruleLines e rules
   pub one-way : BothWays (ruleLine e rules 0) → ⊥
 
-abbrev pub PressFills : Edition → ℕ → Type 0
-PressFills e n =
+abbrev pub PressFills : Plan → ℕ → Type 0
+PressFills plan n =
+    let e = plan .edition in
     (rules out marks : List ℕ)
     → HasLine e rules
     → recordBytes e * (2 * n - 1) ≤ length out
     → ruleLines e rules ≤ length marks
-    → (report : Report) × (Press.press e (Press.call (sheetBytes e (copies e rules n)) rules out marks) .answer ≡ Press.accepted report)
+    → (report : Report) × (Press.press plan (Press.call (sheetBytes e (copies e rules n)) rules out marks) .answer ≡ Press.accepted report)
 
 abbrev pub ReplayFills : Edition → ℕ → Type 0
 ReplayFills e n =
@@ -70,18 +74,20 @@ ReplayFills e n =
 
 abbrev pub Limits : Type 0
 Limits =
-    (e : Edition) (n : ℕ)
-    → (n ≤ pressRecords e → PressTakes e n × (0 < n → PressFills e n))
-    × (pressRecords e < n → PressTurnsAway e n)
+    (plan : Plan) (n : ℕ)
+    → let e = plan .edition in
+    (n ≤ pressRecords e → PressTakes plan n × (0 < n → PressFills plan n))
+    × (pressRecords e < n → PressTurnsAway plan n)
     × (n ≤ replayRecords e → ReplayTakes e n × (0 < n → ReplayFills e n))
     × (replayRecords e < n → ReplayTurnsAway e n)
 
 -- ---- in the document's numbers: the last that is taken, and the first that is not
 
+-- whatever is chosen
 pub record PressLimit (e : Edition) (last first : ℕ) : Type 0 where
-  pub takes : PressTakes e last
-  pub fills : PressFills e last
-  pub turns-away : PressTurnsAway e first
+  pub takes : (how : Recycling) → PressTakes (plan e how) last
+  pub fills : (how : Recycling) → PressFills (plan e how) last
+  pub turns-away : (how : Recycling) → PressTurnsAway (plan e how) first
 
 pub record ReplayLimit (e : Edition) (last first : ℕ) : Type 0 where
   pub takes : ReplayTakes e last

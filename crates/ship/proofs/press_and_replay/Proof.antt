@@ -15,10 +15,10 @@ module _ (b : tie.After-bytes-of) where
   abbrev written : tie.After-press
   written = b .before .before .before .before .before .before .before .before .before
 
-  ends : b .bytes-of .result ≡ recordBytes (b .before .before .before .before .before .before .before .before .before .before .before .before .before .before .before .before .args .edition) * b .before .before .before .answer2 .given .0 .0 .records
-  ends = b .bytes-of .ensures ∙ ap (λ (n : ℕ). recordBytes (b .before .before .before .before .before .before .before .before .before .before .before .before .before .before .before .before .args .edition) * n) (b .before .wide .ensures)
+  ends : b .bytes-of .result ≡ recordBytes (b .before .before .before .before .before .before .before .before .before .before .before .before .before .before .before .before .args .plan .edition) * b .before .before .before .answer2 .given .0 .0 .records
+  ends = b .bytes-of .ensures ∙ ap (λ (n : ℕ). recordBytes (b .before .before .before .before .before .before .before .before .before .before .before .before .before .before .before .before .args .plan .edition) * n) (b .before .wide .ensures)
 
-  fits-out : recordBytes (b .before .before .before .before .before .before .before .before .before .before .before .before .before .before .before .before .args .edition) * b .before .before .before .answer2 .given .0 .0 .records ≤ length (written .press .last .1 .1 .1 .0)
+  fits-out : recordBytes (b .before .before .before .before .before .before .before .before .before .before .before .before .before .before .before .before .args .plan .edition) * b .before .before .before .answer2 .given .0 .0 .records ≤ length (written .press .last .1 .1 .1 .0)
   fits-out = written-fits _ _ _ _ _ (written .press .ensures) _ (b .before .before .before .answer2 .given .1) (written .press .kept .1 .1 .1 .0)
 
 press-requires : tie.Need-press-requires

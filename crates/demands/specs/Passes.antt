@@ -1,0 +1,76 @@
+-- What each pass makes of a proper sheet, whatever is lent and whatever the plan chooses, where no edition and no choice is named.
+use Prim.Native.Nat.{ℕ, _<_}
+use mathlib.Core.Path.{_≡_}
+use mathlib.Core.Bool.{true, false}
+use mathlib.Core.Logic.{_⊎_}
+use mathlib.Core.List.{List}
+use lib.ListN.{length, getD}
+use Rattle.clause.specs.Clauses.{Literal, Literals, none, holds}
+use Rattle.sheet.specs.declared.edition.Edition.{Edition}
+use Rattle.sheet.specs.Editions.{pressRecords}
+use Rattle.sheet.specs.Records.{step, Record, clause, nodeAt}
+use Rattle.sheet.specs.Counts.{nodesOf}
+use Rattle.sheet.specs.Proper.{conclusionOf, Proper}
+use Rattle.press_spec.specs.declared.Recycling.the-variants.{Intersection}
+use Rattle.press_spec.specs.declared.Plan.{Plan}
+use Rattle.press_spec.specs.Links.{links, sink}
+use Rattle.press_spec.specs.Trim.{trim, Reaches}
+use Rattle.press_spec.specs.Recycle.{Reach, unreached, reached, cutLeft, cutOf, Hands}
+use Rattle.press_spec.specs.Rebuild.{standing}
+use Rattle.press_spec.specs.Press.{conclusion, reaches, recycled, chosenFit, pressedFrom, pressed}
+
+-- "Keep what the sink reaches through parents": of every proper sheet the trim has 1 for each node that the sink reaches, and 0 for each other
+abbrev pub TrimKeeps : Type 0
+TrimKeeps =
+    (e : Edition) (sheet rules : List ℕ) (rs : List Record) (n : ℕ)
+    → Proper e (pressRecords e) false rules sheet rs
+    → let s = nodesOf rs in
+    let kept = getD (trim (links s) (sink s)) n 0 in
+    (Reaches (links s) (sink s) n → kept ≡ 1) × (kept ≡ 1 → Reaches (links s) (sink s) n) × ((Reaches (links s) (sink s) n → ⊥) → kept ≡ 0)
+
+-- "Sheets with an empty conclusion press as before": as they did when the sink's set was empty, whatever the sheet
+abbrev pub EmptyAsBefore : Type 0
+EmptyAsBefore = (plan : Plan) (rs : List Record) → conclusionOf rs ≡ none → pressed plan (nodesOf rs) ≡ pressedFrom plan none (nodesOf rs)
+
+-- ---- Recycling. What it finds of each node is whether it is reached, and its set S.
+
+abbrev pub found : Plan → List Record → List Reach
+found plan rs = reaches (chosenFit plan (nodesOf rs)) (conclusion (nodesOf rs)) (nodesOf rs)
+
+-- the clause of what stands for node n after the rebuild
+abbrev pub newClause : Plan → List Record → ℕ → Literals
+newClause plan rs n = standing (recycled (chosenFit plan (nodesOf rs)) (conclusion (nodesOf rs)) (nodesOf rs)) n
+
+-- "Both are proved from one fact: the new clause has no literal outside the old one and S."
+abbrev pub NothingNew : Type 0
+NothingNew =
+    (plan : Plan) (sheet rules : List ℕ) (rs : List Record) (n : ℕ) (S : Literals) (x : Literal)
+    → Proper (plan .edition) (pressRecords (plan .edition)) false rules sheet rs
+    → n < length (nodesOf rs)
+    → getD (found plan rs) n unreached ≡ reached S
+    → holds x (newClause plan rs n) ≡ true
+    → (holds x (clause (nodeAt (nodesOf rs) n)) ≡ true) ⊎ (holds x S ≡ true)
+
+-- "A node's S is the intersection over all its uncut edges from reached steps of what each would hand it": a literal is in S exactly when it is in
+-- every set that a reached step hands the node on an uncut edge. The sink is named by no step, and its S is its clause.
+abbrev pub AllAllow : Type 0
+AllAllow =
+    (plan : Plan) (sheet rules : List ℕ) (rs : List Record) (m : ℕ) (S : Literals) (x : Literal)
+    → Proper (plan .edition) (pressRecords (plan .edition)) false rules sheet rs
+    → plan .recycling ≡ Intersection
+    → (m ≡ sink (nodesOf rs) → ⊥)
+    → getD (found plan rs) m unreached ≡ reached S
+    → let allow = (n : ℕ) (X : Literals) → Hands (links (nodesOf rs)) (found plan rs) n m X → holds x X ≡ true in
+    (holds x S ≡ true → allow) × (allow → holds x S ≡ true)
+
+-- "A step naming a node on both sides contributes both edges." Since the sink's S is its clause, a reached node's S has its whole clause; so such a
+-- step is always cut when it is reached, on the left, and no sheet shows how many edges it would contribute.
+abbrev pub NamedTwice : Type 0
+NamedTwice =
+    (plan : Plan) (sheet rules : List ℕ) (rs : List Record) (n p m : ℕ) (c S : Literals)
+    → Proper (plan .edition) (pressRecords (plan .edition)) false rules sheet rs
+    → plan .recycling ≡ Intersection
+    → n < length (nodesOf rs)
+    → nodeAt (nodesOf rs) n ≡ step p m m c
+    → getD (found plan rs) n unreached ≡ reached S
+    → cutOf p S ≡ cutLeft
