@@ -4,22 +4,28 @@ use mathlib.Core.Bool.{true, false}
 use mathlib.Core.List.{List}
 use Prim.Native.Nat.{ℕ}
 use Rattle.sheet.specs.declared.edition.Edition.{Edition}
+use Rattle.press_spec.specs.declared.Plan.{Plan}
 use Rattle.press_spec.specs.Press.{Call, Answer, outcome, press}
 use Rattle.replay_spec.specs.Slots.{Slot}
 use Rattle.replay_spec.specs.Replay.{Answer as ReplayAnswer, outcome as replay-outcome, replay}
-use Rattle.c_report.specs.Report.{fill, pressCode, pressWords, replayCode, replayWords, noEdition, names, editionOf}
-use Rattle.c_exports.specs.Calls.{pressing, toldPress, pressBy, replaying, toldReplay, replayBy}
+use Rattle.c_report.specs.Report.{fill, pressCode, pressWords, replayCode, replayWords}
+use Rattle.c_report.specs.Named.{noEdition, names, editionOf, planOf}
+use Rattle.c_report.specs.declared.named.Naming.{Naming}
+use Rattle.c_report.specs.declared.named.Naming.the-variants.{Named, Unnamed}
+use Rattle.c_exports.specs.Calls.{pressing, toldPress, pressAs, pressBy, replaying, toldReplay, replayBy}
 
--- the answer of a press, told, in the edition that the number names
-pub told-press : (n : ℕ) (e : Edition) (c : Call) (a : Answer) (out marks report report′ : List ℕ) (code : ℕ) → names n ≡ true → e ≡ editionOf n
-    → outcome a out marks ≡ press e c → (code ≡ pressCode a) × (report′ ≡ fill 0 (pressWords a) report)
-    → pressing code out marks report′ ≡ pressBy n c report
-unfolding pressBy toldPress
-told-press n e c a out marks report report′ code known q o t = rw (known, ← q, ← o, t .0, t .1)
+-- the answer of a press, told, by the plan that the numbers name
+pub told-press : (e r : ℕ) (plan : Plan) (c : Call) (a : Answer) (out marks report report′ : List ℕ) (code : ℕ) (named : Naming)
+    → named ≡ planOf e r → named ≡ Named plan
+    → outcome a out marks ≡ press plan c → (code ≡ pressCode a) × (report′ ≡ fill 0 (pressWords a) report)
+    → pressing code out marks report′ ≡ pressBy e r c report
+unfolding pressBy pressAs toldPress
+told-press e r plan c a out marks report report′ code named q is o t = rw (← q, is, ← o, t .0, t .1)
 
-pub told-none : (n : ℕ) (c : Call) (report : List ℕ) → names n ≡ false → pressing noEdition (c .out) (c .marks) report ≡ pressBy n c report
-unfolding pressBy
-told-none n c report unknown = rw unknown
+pub told-none : (e r : ℕ) (c : Call) (report : List ℕ) (code : ℕ) (named : Naming) → named ≡ planOf e r → named ≡ Unnamed code
+    → pressing code (c .out) (c .marks) report ≡ pressBy e r c report
+unfolding pressBy pressAs
+told-none e r c report code named q is = rw (← q, is)
 
 -- and that of a replay
 pub told-replay : (n : ℕ) (e : Edition) (sheet rules : List ℕ) (before after : List Slot) (a : ReplayAnswer) (report report′ : List ℕ) (code : ℕ) → names n ≡ true → e ≡ editionOf n

@@ -6,7 +6,10 @@ use Rattle.press_spec.specs.Press as Press
 use Rattle.press_spec.specs.Press.{Call}
 use Rattle.replay_spec.specs.Slots.{Slot}
 use Rattle.replay_spec.specs.Replay as Replay
-use Rattle.c_report.specs.Report.{fill, pressCode, pressWords, replayCode, replayWords, noEdition, names, editionOf}
+use Rattle.c_report.specs.Report.{fill, pressCode, pressWords, replayCode, replayWords}
+use Rattle.c_report.specs.Named.{noEdition, names, editionOf, planOf}
+use Rattle.c_report.specs.declared.named.Naming.{Naming}
+use Rattle.c_report.specs.declared.named.Naming.the-variants.{Named, Unnamed}
 
 pub record Pressing : Type 0 where
   pub code : ℕ
@@ -21,9 +24,14 @@ pressing code out marks report = record { code = code; out = out; marks = marks;
 unfoldable pub toldPress : Press.Outcome → List ℕ → Pressing
 toldPress o report = pressing (pressCode (o .answer)) (o .out) (o .marks) (fill 0 (pressWords (o .answer)) report)
 
--- by the edition's number; one that names no edition touches nothing
-unfoldable pub pressBy : ℕ → Call → List ℕ → Pressing
-pressBy n c report = cond (names n) (toldPress (Press.press (editionOf n) c) report) (pressing noEdition (c .out) (c .marks) report)
+-- by the plan that is named; numbers that name none touch nothing
+unfoldable pub pressAs : Naming → Call → List ℕ → Pressing
+pressAs (Named plan) c report = toldPress (Press.press plan c) report
+pressAs (Unnamed code) c report = pressing code (c .out) (c .marks) report
+
+-- by the numbers of the edition and the recycling
+unfoldable pub pressBy : ℕ → ℕ → Call → List ℕ → Pressing
+pressBy e r c report = pressAs (planOf e r) c report
 
 pub record Replaying : Type 0 where
   pub code : ℕ
@@ -36,6 +44,7 @@ replaying code slots report = record { code = code; slots = slots; report = repo
 unfoldable pub toldReplay : Replay.Outcome → List ℕ → Replaying
 toldReplay o report = replaying (replayCode (o .answer)) (o .slots) (fill 0 (replayWords (o .answer)) report)
 
+-- by the number of the edition
 unfoldable pub replayBy : ℕ → List ℕ → List ℕ → List Slot → List ℕ → Replaying
 replayBy n sheet rules slots report =
     cond (names n) (toldReplay (Replay.replay (editionOf n) sheet rules slots) report) (replaying noEdition slots report)

@@ -1,12 +1,8 @@
 -- What the C interface answers: 0 or the refusal's number, and a row of words, of which as many are filled as fit.
 use Prim.Native.Nat.{ℕ, suc, _/_, _%_, _^_}
-use mathlib.Core.Bool.{Bool, cond}
 use mathlib.Core.List.{List, [], _∷_}
-use lib.Dec.{eqb, ltb}
 use lib.ListN.{set}
 use Rattle.clause.specs.Denote.{word}
-use Rattle.sheet.specs.declared.edition.Edition.{Edition}
-use Rattle.sheet.specs.declared.edition.Edition.the-variants.{Narrow, Wide}
 use Rattle.press_spec.specs.Press.{Answer, refused, accepted}
 use Rattle.replay_spec.specs.Replay as R
 
@@ -60,15 +56,3 @@ replayWords (R.accepted r) =
     ∷ highWord (r .conclusion .positive)
     ∷ highWord (r .conclusion .negative)
     ∷ []
-
--- ---- the edition that a caller names by a number
-
-abbrev pub noEdition : ℕ
-noEdition = 255
-
--- 0 and 1 name one, other numbers none
-unfoldable pub names : ℕ → Bool
-names n = ltb n 2
-
-unfoldable pub editionOf : ℕ → Edition
-editionOf n = cond (eqb n 0) Narrow Wide

@@ -5,10 +5,11 @@ ghost use Prim.Native.Nat.{_<_};
 ghost use lib.ListN.{set};
 ghost use Rattle.press.specs.Said.{said};
 ghost use Rattle.replay_answer.specs.Answers.{said as saidOfReplay};
-ghost use Rattle.c_report.specs.Report.{fill, pressCode, pressWords, replayCode, replayWords, names, editionOf};
+ghost use Rattle.c_report.specs.Report.{fill, pressCode, pressWords, replayCode, replayWords};
 use press::PressAnswer;
 use replay_answer::ReplayAnswer;
-use sheet::edition::Edition;
+
+pub mod named;
 
 // A word of the report, where there is room for it.
 fn put(report: &mut [u64], i: usize, word: u64)
@@ -102,23 +103,4 @@ pub fn tell_replay(answer: ReplayAnswer, report: &mut [u64]) -> u32
             sheet::number_of(why)
         }
     }
-}
-
-// What is answered to a number that names no edition.
-pub const NO_EDITION: u32 = 255;
-
-pub fn names_edition(number: u32) -> bool
-    ensures { λ b. ⌜ b ≡ names number ⌝ }
-{
-    number < 2
-}
-
-// The edition that a number names; of those that name none it may be any.
-pub fn edition_of(number: u32) -> Edition
-    ensures { λ e. ⌜ e ≡ editionOf number ⌝ }
-{
-    if number == 0 {
-        return Edition::Narrow;
-    }
-    Edition::Wide
 }

@@ -1,0 +1,59 @@
+// What a caller names by numbers: the edition of a replay, the plan of a press.
+ghost use mathlib.Core.Path.{_≡_};
+ghost use Rattle.c_report.specs.Named.{names, editionOf, recyclingOf, planOf};
+use press_spec::Plan;
+use press_spec::Recycling;
+use sheet::edition::Edition;
+
+// What is answered to a number that names no edition, and to one that names no recycling.
+pub const NO_EDITION: u32 = 255;
+
+pub const NO_RECYCLING: u32 = 254;
+
+pub fn names_one(number: u32) -> bool
+    ensures { λ b. ⌜ b ≡ names number ⌝ }
+{
+    number < 2
+}
+
+// The edition that a number names; of those that name none it may be any.
+pub fn edition_of(number: u32) -> Edition
+    ensures { λ e. ⌜ e ≡ editionOf number ⌝ }
+{
+    if number == 0 {
+        return Edition::Narrow;
+    }
+    Edition::Wide
+}
+
+fn recycling_of(number: u32) -> Recycling
+    ensures { λ r. ⌜ r ≡ recyclingOf number ⌝ }
+{
+    if number == 0 {
+        return Recycling::Reset;
+    }
+    Recycling::Intersection
+}
+
+// A plan, or what is answered to numbers that name none.
+pub enum Naming {
+    Named(Plan),
+    Unnamed(u32),
+}
+
+// The edition is looked at first.
+pub fn plan_of(edition: u32, recycling: u32) -> Naming
+    ensures { λ r. ⌜ r ≡ planOf edition recycling ⌝ }
+{
+    if names_one(edition) {
+        if names_one(recycling) {
+            let plan = Plan {
+                edition: edition_of(edition),
+                recycling: recycling_of(recycling),
+            };
+            return Naming::Named(plan);
+        }
+        return Naming::Unnamed(NO_RECYCLING);
+    }
+    Naming::Unnamed(NO_EDITION)
+}
