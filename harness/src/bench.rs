@@ -1,9 +1,10 @@
 //! How long the library takes, and how many instructions, beside the second
 //! program. Nothing is asserted.
 
-use crate::library::{self, Slot, PRESS_WORDS, REPLAY_WORDS};
+use crate::library::{self, numbers, Slot, PRESS_WORDS, REPLAY_WORDS};
 use crate::sheets::{self, Sheet};
 use reference::edition::Edition;
+use reference::plan::{Plan, Recycling};
 use std::hint::black_box;
 use std::process::Command;
 use std::time::{Duration, Instant};
@@ -35,8 +36,8 @@ fn call(side: Side, job: Job, sheet: &Sheet, calls: u64) {
 }
 
 fn press(side: Side, sheet: &Sheet, calls: u64) {
-    let edition = sheet.edition;
-    let mut out = vec![0; edition.room(sheet.records())];
+    let plan = sheet.plan;
+    let mut out = vec![0; plan.edition.room(sheet.records())];
     let mut marks = vec![0; sheet.lines()];
     let mut report = [0; PRESS_WORDS];
     for _ in 0..calls {
@@ -44,7 +45,7 @@ fn press(side: Side, sheet: &Sheet, calls: u64) {
         match side {
             Side::Library => {
                 black_box(library::press(
-                    edition.number().into(),
+                    numbers(plan),
                     bytes,
                     rules,
                     &mut out,
@@ -53,7 +54,7 @@ fn press(side: Side, sheet: &Sheet, calls: u64) {
                 ));
             }
             Side::Reference => {
-                let answer = reference::press::press(edition, bytes, rules, &mut out, &mut marks);
+                let answer = reference::press::press(plan, bytes, rules, &mut out, &mut marks);
                 black_box(answer).expect("drafts are good");
             }
         }
@@ -61,7 +62,7 @@ fn press(side: Side, sheet: &Sheet, calls: u64) {
 }
 
 fn replay(side: Side, sheet: &Sheet, calls: u64) {
-    let edition = sheet.edition;
+    let edition = sheet.plan.edition;
     let mut slots = vec![Slot::default(); sheet.pressed.peak];
     let mut their_slots = vec![reference::replay::Slot::default(); sheet.pressed.peak];
     let mut report = [0; REPLAY_WORDS];
@@ -87,24 +88,24 @@ fn replay(side: Side, sheet: &Sheet, calls: u64) {
 }
 
 /// Makes so many calls of one side, for a tool that counts instructions.
-pub fn calls(side: &str, job: &str, name: &str, calls: u64) -> Option<()> {
+pub fn calls(side: &str, job: &str, recycling: Recycling, name: &str, calls: u64) -> Option<()> {
     let (side, _) = SIDES.into_iter().find(|(_, word)| *word == side)?;
     let (job, _) = JOBS.into_iter().find(|(_, word)| *word == job)?;
-    call(side, job, &sheets::named(name)?, calls);
+    call(side, job, &sheets::named(recycling, name)?, calls);
     Some(())
 }
 
 /// The tables of both editions, line by line.
-pub fn tables(print: impl Fn(&str)) {
+pub fn tables(recycling: Recycling, print: impl Fn(&str)) {
     for edition in Edition::ALL {
-        print(edition.word());
-        tables_of(edition, &print);
+        print(&format!("{}, {}", edition.word(), recycling.word()));
+        tables_of(Plan { edition, recycling }, &print);
     }
 }
 
-fn tables_of(edition: Edition, print: impl Fn(&str)) {
-    let sheets = sheets::all(edition);
-    let growing = sheets::growing(edition);
+fn tables_of(plan: Plan, print: impl Fn(&str)) {
+    let sheets = sheets::all(plan);
+    let growing = sheets::growing(plan);
     print(&heading("ns"));
     for (job, word) in JOBS {
         for sheet in &sheets {
@@ -120,12 +121,12 @@ fn tables_of(edition: Edition, print: impl Fn(&str)) {
     print(&heading("instr."));
     for (_, word) in JOBS {
         for sheet in &sheets {
-            let counts = SIDES.map(|(_, side)| instructions(side, word, &sheet.name));
+            let counts = SIDES.map(|(_, side)| instructions(side, word, sheet));
             print(&line(word, sheet, counts));
         }
     }
     growth(&print, "instr.", &growing, |sheet| {
-        instructions("library", "press", &sheet.name)
+        instructions("library", "press", sheet)
     });
 }
 
@@ -202,13 +203,15 @@ fn nanoseconds(job: Job, sheet: &Sheet) -> [f64; 2] {
 }
 
 /// Instructions of one call: those of six calls less those of one, by five.
-fn instructions(side: &str, job: &str, name: &str) -> f64 {
+fn instructions(side: &str, job: &str, sheet: &Sheet) -> f64 {
+    let recycling = sheet.plan.recycling.word();
     let counted = |calls: &str| -> f64 {
         let program = std::env::current_exe().expect("this program has a name");
         let said = Command::new("valgrind")
             .args(["--tool=callgrind", "--callgrind-out-file=/dev/null"])
             .arg(program)
-            .args(["calls", side, job, name, calls])
+            .args(["calls", side, job, &sheet.name, calls])
+            .args(["--recycling", recycling])
             .output()
             .expect("valgrind is there");
         let said = String::from_utf8_lossy(&said.stderr).into_owned();

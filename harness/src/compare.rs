@@ -2,9 +2,10 @@
 //! byte of the memory lent and around it.
 
 use crate::lent::Lent;
-use crate::library::{self, NO_EDITION, PRESS_WORDS, REPLAY_WORDS};
+use crate::library::{self, numbers, NO_EDITION, PRESS_WORDS, REPLAY_WORDS};
 use reference::cases::{draw, Case, Size};
 use reference::edition::Edition;
+use reference::plan::{Plan, Recycling};
 use reference::press::{press, Pressed};
 use reference::refusal::Refusal;
 use reference::replay::{replay, Replayed, Slot};
@@ -21,6 +22,8 @@ pub struct Count {
     pub refused: usize,
     /// How many of them named the wide edition.
     pub wide: usize,
+    /// How many of the presses that were accepted named the reset.
+    pub reset: usize,
 }
 
 /// The two words of a set, the variables under 64 in the first.
@@ -103,7 +106,7 @@ fn same_code(ours: u32, theirs: u32) -> Result<(), Difference> {
 /// back if there is one.
 pub fn press_alike(
     rng: &mut Rng,
-    edition: Edition,
+    plan: Plan,
     sheet: &[u8],
     rules: &[u8],
     (room, marks): (usize, usize),
@@ -113,17 +116,11 @@ pub fn press_alike(
     let mut marks = Lent::of_bytes(rng, marks);
     let mut report = Lent::of_words(rng, report);
     let (mut their_out, mut their_marks) = (out.clone(), marks.clone());
-    let theirs = press(
-        edition,
-        sheet,
-        rules,
-        their_out.bytes(),
-        their_marks.bytes(),
-    );
+    let theirs = press(plan, sheet, rules, their_out.bytes(), their_marks.bytes());
     let their_report = filled(&report, &press_words(&theirs));
 
     let ours = library::press(
-        edition.number().into(),
+        numbers(plan),
         sheet,
         rules,
         out.bytes(),
@@ -135,7 +132,7 @@ pub fn press_alike(
     same("the output", &out, &their_out)?;
     same("the marks", &marks, &their_marks)?;
     let pressed = theirs.ok();
-    let length = |done: &Pressed| done.records * edition.record_bytes();
+    let length = |done: &Pressed| done.records * plan.edition.record_bytes();
     Ok(pressed.map(|done| (out.bytes()[..length(&done)].to_vec(), done)))
 }
 
@@ -166,31 +163,44 @@ pub fn replay_alike(
     Ok(theirs)
 }
 
-/// Calls with a number that names no edition: it is answered, and nothing is
+/// A press with a number that names nothing, which is answered so: nothing is
 /// touched, the report neither.
-pub fn no_edition_alike(
+pub fn unnamed_press(
     rng: &mut Rng,
-    number: u32,
+    numbers: [u32; 2],
+    answer: u32,
     sheet: &[u8],
     rules: &[u8],
 ) -> Result<(), Difference> {
     let mut out = Lent::of_bytes(rng, 2 * sheet.len());
     let mut marks = Lent::of_bytes(rng, rules.len());
-    let mut row = Lent::of_slots(rng, 3);
     let mut report = Lent::of_words(rng, PRESS_WORDS);
-    let before = (out.clone(), marks.clone(), row.clone(), report.clone());
+    let before = (out.clone(), marks.clone(), report.clone());
     let pressed = library::press(
-        number,
+        numbers,
         sheet,
         rules,
         out.bytes(),
         marks.bytes(),
         report.words(),
     );
-    same_code(pressed, NO_EDITION)?;
+    same_code(pressed, answer)?;
+    same("the memory lent", &(out, marks, report), &before)
+}
+
+/// The same of a replay, which is told an edition alone.
+pub fn unnamed_replay(
+    rng: &mut Rng,
+    number: u32,
+    sheet: &[u8],
+    rules: &[u8],
+) -> Result<(), Difference> {
+    let mut row = Lent::of_slots(rng, 3);
+    let mut report = Lent::of_words(rng, REPLAY_WORDS);
+    let before = (row.clone(), report.clone());
     let replayed = library::replay(number, sheet, rules, row.slots(), report.words());
     same_code(replayed, NO_EDITION)?;
-    same("the memory lent", &(out, marks, row, report), &before)
+    same("the memory lent", &(row, report), &before)
 }
 
 /// The pressed output replayed at the peak and one below.
@@ -220,21 +230,23 @@ pub fn case_alike(seed: u64, index: u64, count: &mut Count) -> Result<(), Differ
     // not the stream that the case is drawn from
     let mut rng = Rng::new(!seed, index);
     let words = rng.below(PRESS_WORDS + 2);
-    match draw(seed, index, Size::Any) {
+    let case = draw(seed, index, Size::Any);
+    count.wide += usize::from(case.edition() == Edition::Wide);
+    match case {
         Case::Press {
-            edition,
+            plan,
             sheet,
             rules,
             room,
             marks,
         } => {
-            count.wide += usize::from(edition == Edition::Wide);
             let lent = (room, marks);
-            match press_alike(&mut rng, edition, &sheet, &rules, lent, words)? {
+            match press_alike(&mut rng, plan, &sheet, &rules, lent, words)? {
                 None => count.refused += 1,
                 Some((out, done)) => {
-                    pressed_alike(&mut rng, edition, &out, &rules, &done)?;
+                    pressed_alike(&mut rng, plan.edition, &out, &rules, &done)?;
                     count.pressed += 1;
+                    count.reset += usize::from(plan.recycling == Recycling::Reset);
                 }
             }
         }
@@ -243,13 +255,10 @@ pub fn case_alike(seed: u64, index: u64, count: &mut Count) -> Result<(), Differ
             sheet,
             rules,
             slots,
-        } => {
-            count.wide += usize::from(edition == Edition::Wide);
-            match replay_alike(&mut rng, edition, &sheet, &rules, slots, words)? {
-                Err(_) => count.refused += 1,
-                Ok(_) => count.replayed += 1,
-            }
-        }
+        } => match replay_alike(&mut rng, edition, &sheet, &rules, slots, words)? {
+            Err(_) => count.refused += 1,
+            Ok(_) => count.replayed += 1,
+        },
     }
     Ok(())
 }

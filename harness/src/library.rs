@@ -1,11 +1,14 @@
 //! The proved library's two functions, as include/tempuquile.h declares them.
 
+use reference::plan::Plan;
+
 pub mod c {
     use super::Slot;
 
     extern "C" {
         pub fn tempuquile_press(
             edition: u32,
+            recycling: u32,
             sheet: *const u8,
             sheet_len: usize,
             rules: *const u8,
@@ -49,9 +52,18 @@ pub const REPLAY_WORDS: usize = 8;
 /// `TEMPUQUILE_NO_EDITION`: the answer to a number that names no edition.
 pub const NO_EDITION: u32 = 255;
 
-/// The edition is a number here, so that one that names none can be tried.
+/// `TEMPUQUILE_NO_RECYCLING`: the answer to a number that names no recycling.
+pub const NO_RECYCLING: u32 = 254;
+
+/// The numbers of a plan.
+pub fn numbers(plan: Plan) -> [u32; 2] {
+    [plan.edition.number(), plan.recycling.number()].map(u32::from)
+}
+
+/// Edition and recycling are numbers here, so that some that name none can be
+/// tried.
 pub fn press(
-    edition: u32,
+    [edition, recycling]: [u32; 2],
     sheet: &[u8],
     rules: &[u8],
     out: &mut [u8],
@@ -61,6 +73,7 @@ pub fn press(
     unsafe {
         c::tempuquile_press(
             edition,
+            recycling,
             sheet.as_ptr(),
             sheet.len(),
             rules.as_ptr(),

@@ -2,27 +2,27 @@
 
 use harness::bench;
 use harness::compare::{case_alike, Count};
+use reference::plan::{Plan, Recycling};
 use std::process::ExitCode;
 use std::time::{SystemTime, UNIX_EPOCH};
 
 const USAGE: &str = "usage:
   harness compare [--seed S] [--count N]     a seed of its own, and 20000 cases, if none is given
-  harness bench
-  harness calls library|reference press|replay SHEET N";
+  harness bench [--recycling reset|intersection]     the program's, if none is named
+  harness calls library|reference press|replay SHEET N [--recycling reset|intersection]";
 
 fn main() -> ExitCode {
     let words: Vec<String> = std::env::args().skip(1).collect();
     let words: Vec<&str> = words.iter().map(String::as_str).collect();
     let done = match words.as_slice() {
         ["compare", flags @ ..] => compare(flags),
-        ["bench"] => {
-            bench::tables(|line| println!("{line}"));
-            Some(true)
-        }
-        ["calls", side, job, name, calls] => calls
-            .parse()
-            .ok()
-            .and_then(|calls| bench::calls(side, job, name, calls))
+        ["bench", flags @ ..] => recycling(flags).map(|recycling| {
+            bench::tables(recycling, |line| println!("{line}"));
+            true
+        }),
+        ["calls", side, job, name, calls, flags @ ..] => recycling(flags)
+            .zip(calls.parse().ok())
+            .and_then(|(recycling, calls)| bench::calls(side, job, recycling, name, calls))
             .map(|()| true),
         _ => None,
     };
@@ -33,6 +33,14 @@ fn main() -> ExitCode {
             eprintln!("{USAGE}");
             ExitCode::from(2)
         }
+    }
+}
+
+fn recycling(flags: &[&str]) -> Option<Recycling> {
+    match flags {
+        [] => Some(Plan::PROGRAM.recycling),
+        ["--recycling", word] => Recycling::of_word(word),
+        _ => None,
     }
 }
 
@@ -55,8 +63,8 @@ fn compare(flags: &[&str]) -> Option<bool> {
         }
     }
     println!(
-        "seed {seed}: {} pressed and replayed at the peak and one below, {} replayed, {} refused; {} wide",
-        seen.pressed, seen.replayed, seen.refused, seen.wide
+        "seed {seed}: {} pressed, {} of them by the reset, and replayed at the peak and one below, {} replayed, {} refused; {} wide",
+        seen.pressed, seen.reset, seen.replayed, seen.refused, seen.wide
     );
     println!("{count} compared, {different} different");
     Some(different == 0)

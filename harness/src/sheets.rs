@@ -1,16 +1,17 @@
 //! Sheets that are measured and shown.
 
-use reference::cases::dense::lattice;
 use reference::cases::draft::Draft;
+use reference::cases::stages::{ladder, stages, Givens};
 use reference::clause::{Clause, Literal};
 use reference::edition::Edition;
+use reference::plan::{Plan, Recycling};
 use reference::press::{press, Pressed};
 use reference::rng::Rng;
 use reference::sheets::starred;
 
-/// A sheet, its rule table, and what the second program makes of it.
+/// A sheet, its rule table, and what the second program makes of it by the plan.
 pub struct Sheet {
-    pub edition: Edition,
+    pub plan: Plan,
     pub name: String,
     pub sheet: Vec<u8>,
     pub rules: Vec<u8>,
@@ -19,15 +20,16 @@ pub struct Sheet {
 }
 
 impl Sheet {
-    fn new(edition: Edition, name: &str, (sheet, rules): (Vec<u8>, Vec<u8>)) -> Sheet {
+    fn new(plan: Plan, name: &str, (sheet, rules): (Vec<u8>, Vec<u8>)) -> Sheet {
+        let edition = plan.edition;
         let record = edition.record_bytes();
         let mut out = vec![0; edition.room(sheet.len() / record)];
         let mut marks = vec![0; rules.len() / edition.line_bytes()];
-        let pressed = press(edition, &sheet, &rules, &mut out, &mut marks);
+        let pressed = press(plan, &sheet, &rules, &mut out, &mut marks);
         let pressed = pressed.expect("the sheets are good");
         out.truncate(pressed.records * record);
         Sheet {
-            edition,
+            plan,
             name: name.to_string(),
             sheet,
             rules,
@@ -36,17 +38,17 @@ impl Sheet {
         }
     }
 
-    fn of(edition: Edition, name: &str, draft: &Draft) -> Sheet {
-        let bytes = (draft.sheet(edition), draft.rule_table(edition));
-        Sheet::new(edition, name, bytes)
+    fn of(plan: Plan, name: &str, draft: &Draft) -> Sheet {
+        let bytes = (draft.sheet(plan.edition), draft.rule_table(plan.edition));
+        Sheet::new(plan, name, bytes)
     }
 
     pub fn records(&self) -> usize {
-        self.sheet.len() / self.edition.record_bytes()
+        self.sheet.len() / self.plan.edition.record_bytes()
     }
 
     pub fn lines(&self) -> usize {
-        self.rules.len() / self.edition.line_bytes()
+        self.rules.len() / self.plan.edition.line_bytes()
     }
 }
 
@@ -55,31 +57,32 @@ type Shape = fn(Edition, usize) -> Draft;
 
 const SHAPES: [(&str, Shape); 5] = [
     ("shallow", |_, size| shallow(size)),
-    ("deep", deep),
-    ("chain", |_, size| chain(size)),
-    ("shared", |edition, size| {
-        lattice(&mut Rng::new(1, 1), edition, size)
+    ("deep", |edition, size| {
+        stages(edition, size, Givens::Shared)
     }),
-    ("held", held),
+    ("chain", |_, size| chain(size)),
+    ("shared", |_, size| ladder(size)),
+    ("held", |edition, size| stages(edition, size, Givens::Held)),
 ];
 
 /// The one of this name: a small one, or a shape, as `shared-64` at a size, or
 /// as long as a sheet can be. `wide-shared-64` is in the wide edition.
-pub fn named(name: &str) -> Option<Sheet> {
+pub fn named(recycling: Recycling, name: &str) -> Option<Sheet> {
     let (edition, rest) = match name.strip_prefix("wide-") {
         Some(rest) => (Edition::Wide, rest),
         None => (Edition::Narrow, name),
     };
+    let plan = Plan { edition, recycling };
     if rest == "pair" {
         let pair = starred::pair().in_edition(edition);
-        return Some(Sheet::new(edition, name, pair.bytes()));
+        return Some(Sheet::new(plan, name, pair.bytes()));
     }
     let (word, size) = match rest.split_once('-') {
         Some((word, size)) => (word, size.parse().ok()?),
         None => (rest, edition.press_records()),
     };
     let (_, shape) = SHAPES.into_iter().find(|(known, _)| *known == word)?;
-    Some(Sheet::of(edition, name, &shape(edition, size)))
+    Some(Sheet::of(plan, name, &shape(edition, size)))
 }
 
 /// What a name has in front in this edition.
@@ -91,20 +94,34 @@ fn prefix(edition: Edition) -> &'static str {
 }
 
 /// The small one, and one of each shape.
-pub fn all(edition: Edition) -> Vec<Sheet> {
+pub fn all(plan: Plan) -> Vec<Sheet> {
     let shapes = SHAPES.iter().map(|(name, _)| *name);
     let names = ["pair"].into_iter().chain(shapes);
-    let name = |name| format!("{}{name}", prefix(edition));
-    names.flat_map(|word| named(&name(word))).collect()
+    let name = |name| format!("{}{name}", prefix(plan.edition));
+    names
+        .flat_map(|word| named(plan.recycling, &name(word)))
+        .collect()
+}
+
+/// The same of both editions, by the program's passes.
+pub fn of_both() -> Vec<Sheet> {
+    let plan = |edition| Plan {
+        edition,
+        ..Plan::PROGRAM
+    };
+    let plans = Edition::ALL.into_iter().map(plan);
+    plans.flat_map(all).collect()
 }
 
 /// Each shape at five sizes, of which each is twice the one before it.
-pub fn growing(edition: Edition) -> Vec<Vec<Sheet>> {
+pub fn growing(plan: Plan) -> Vec<Vec<Sheet>> {
+    let edition = plan.edition;
     let sizes = [16, 8, 4, 2, 1].map(|part| edition.press_records() / part);
     let at = |name: &str| sizes.map(|size| format!("{}{name}-{size}", prefix(edition)));
+    let named = |name: &String| named(plan.recycling, name);
     let shapes = SHAPES.iter().map(|(name, _)| at(name));
     shapes
-        .map(|names| names.iter().flat_map(|name| named(name)).collect())
+        .map(|names| names.iter().flat_map(named).collect())
         .collect()
 }
 
@@ -132,26 +149,6 @@ fn shallow(size: usize) -> Draft {
     draft
 }
 
-/// A draft that begins with a derived clause of so many variables, each both
-/// ways, and the number of its node.
-fn both_ways(edition: Edition, variables: u8) -> (Draft, usize) {
-    let mut draft = Draft::default();
-    let literals = |v| [Literal::Plus(v), Literal::Minus(v)];
-    let clause = (0..variables).flat_map(literals).collect();
-    let first = draft.derive(&mut Rng::new(0, 0), edition, &clause);
-    (draft, first)
-}
-
-/// A clause resolved with itself again and again: nearly as deep as a sheet can
-/// be.
-fn deep(edition: Edition, size: usize) -> Draft {
-    let (mut draft, first) = both_ways(edition, 1);
-    for node in first..size - 1 {
-        draft.resolve(0, node, node);
-    }
-    draft
-}
-
 /// {+0} and {-0,+1} make {+1}, which makes {+0} with {-1,+0}, and so on: deep,
 /// and nearly all of it is cut.
 fn chain(size: usize) -> Draft {
@@ -164,21 +161,6 @@ fn chain(size: usize) -> Draft {
         let other: Clause = literals.into_iter().collect();
         let other = draft.give(&mut rng, other);
         last = draft.resolve(pivot, last, other);
-    }
-    draft
-}
-
-/// Nodes that are used again, last made first: a third of them are held at
-/// once, the first one from the start to the end.
-fn held(edition: Edition, size: usize) -> Draft {
-    let (mut draft, first) = both_ways(edition, 2);
-    let mut last = first + size / 3 - 1;
-    for node in first..last {
-        draft.resolve(0, node, node);
-    }
-    for node in (first..last).rev() {
-        let one = draft.resolve(0, last, node);
-        last = draft.resolve(1, one, one);
     }
     draft
 }

@@ -1,11 +1,15 @@
 //! Calls of the library with every length of report, and with lent memory whose
 //! every byte is looked at.
 
-use harness::compare::{case_alike, no_edition_alike, press_alike, replay_alike, Count};
-use harness::library::{self, Slot, PRESS_WORDS};
+use harness::compare::{
+    case_alike, press_alike, replay_alike, unnamed_press, unnamed_replay, Count,
+};
+use harness::library::{self, numbers, Slot, NO_EDITION, NO_RECYCLING, PRESS_WORDS};
 use harness::sheets;
 use reference::edition::Edition;
+use reference::plan::{Plan, Recycling};
 use reference::rng::Rng;
+use reference::sheets::recycling::{all_allow, reset_shorter};
 
 #[test]
 fn random_cases_are_alike() {
@@ -15,18 +19,39 @@ fn random_cases_are_alike() {
     }
     assert!(count.pressed > 400 && count.replayed > 300 && count.refused > 400);
     assert!(count.wide > 500);
+    assert!(count.reset * 10 > count.pressed * 4 && count.reset * 10 < count.pressed * 6);
+}
+
+/// Sheets that the recyclings press apart, in both directions: the number decides.
+#[test]
+fn the_recyclings_are_named_by_their_numbers() {
+    let mut rng = Rng::new(4, 0);
+    for (worked, steps) in [(all_allow(), [4, 3]), (reset_shorter(), [1, 2])] {
+        let (sheet, rules) = worked.bytes();
+        let lent = (
+            worked.edition.room(worked.records.len()),
+            worked.rules.len(),
+        );
+        let by = |recycling| {
+            let plan = worked.plan(recycling);
+            let pressed = press_alike(&mut rng, plan, &sheet, &rules, lent, PRESS_WORDS);
+            pressed.unwrap().expect("it is accepted").1.steps
+        };
+        assert_eq!(Recycling::ALL.map(by), steps);
+    }
 }
 
 #[test]
 fn a_report_holds_as_many_words_as_fit() {
     let mut rng = Rng::new(2, 0);
-    for sheet in Edition::ALL.into_iter().flat_map(sheets::all) {
-        let edition = sheet.edition;
+    for sheet in sheets::of_both() {
+        let edition = sheet.plan.edition;
         let ample = (edition.room(sheet.records()), sheet.lines());
         let peak = sheet.pressed.peak;
         for words in 0..=PRESS_WORDS + 1 {
             for room in [ample, (0, 0)] {
-                press_alike(&mut rng, edition, &sheet.sheet, &sheet.rules, room, words).unwrap();
+                let (plan, bytes, rules) = (sheet.plan, &sheet.sheet, &sheet.rules);
+                press_alike(&mut rng, plan, bytes, rules, room, words).unwrap();
             }
             // accepted; 15 at some record; 6 at record 0; 4
             for slots in [peak, peak - 1] {
@@ -47,10 +72,11 @@ fn a_report_holds_as_many_words_as_fit() {
 
 #[test]
 fn the_pair_comes_out_as_document_01_has_it() {
-    let pair = &sheets::all(Edition::Narrow)[0];
+    let pair = &sheets::all(Plan::PROGRAM)[0];
     let (mut out, mut marks, mut report) = ([0xA5; 130], [0xA5; 3], [7; 11]);
     let (sheet, rules) = (&pair.sheet, &pair.rules);
-    let code = library::press(0, sheet, rules, &mut out, &mut marks, &mut report);
+    let numbers = numbers(pair.plan);
+    let code = library::press(numbers, sheet, rules, &mut out, &mut marks, &mut report);
     let mut expected = [0xA5; 130];
     expected[..120].fill(0);
     for at in [0, 8, 24, 30, 40, 52, 98] {
@@ -72,7 +98,10 @@ fn a_row_is_as_long_as_the_header_says() {
         .into_iter()
         .flat_map(|edition| (0..6).map(move |slots| (edition, slots)))
     {
-        let pair = &sheets::all(edition)[0];
+        let pair = &sheets::all(Plan {
+            edition,
+            ..Plan::PROGRAM
+        })[0];
         let mut words = [u64::MAX; 5 * 8];
         let row: *mut Slot = words[5..].as_mut_ptr().cast();
         let row = unsafe { std::slice::from_raw_parts_mut(row, slots) };
@@ -87,14 +116,28 @@ fn a_row_is_as_long_as_the_header_says() {
     }
 }
 
-/// Any number but 0 and 1, with sheets that one of the editions would take.
+/// Any number but 0 and 1, with sheets that a press or a replay would take. The
+/// edition is looked at first.
 #[test]
-fn a_number_that_names_no_edition_is_answered_and_nothing_is_touched() {
+fn a_number_that_names_nothing_is_answered_and_nothing_is_touched() {
     let mut rng = Rng::new(3, 0);
-    for sheet in Edition::ALL.into_iter().flat_map(sheets::all) {
-        for number in [2, 3, 255, 256, 1 << 16, u32::MAX - 1, u32::MAX] {
-            no_edition_alike(&mut rng, number, &sheet.sheet, &sheet.rules).unwrap();
+    let unknown = [2, 3, 254, 255, 256, 1 << 16, u32::MAX - 1, u32::MAX];
+    for sheet in sheets::of_both() {
+        let (bytes, rules) = (&sheet.sheet, &sheet.rules);
+        let [edition, recycling] = numbers(sheet.plan);
+        for number in unknown {
+            for (numbers, answer) in [
+                ([number, recycling], NO_EDITION),
+                ([edition, number], NO_RECYCLING),
+                ([number, number], NO_EDITION),
+            ] {
+                unnamed_press(&mut rng, numbers, answer, bytes, rules).unwrap();
+            }
+            unnamed_replay(&mut rng, number, &sheet.out, rules).unwrap();
         }
     }
-    no_edition_alike(&mut rng, 2, &[], &[0]).unwrap();
+    // with a sheet and a table that would be refused
+    unnamed_press(&mut rng, [2, 0], NO_EDITION, &[], &[0]).unwrap();
+    unnamed_press(&mut rng, [0, 2], NO_RECYCLING, &[], &[0]).unwrap();
+    unnamed_replay(&mut rng, 2, &[], &[0]).unwrap();
 }
