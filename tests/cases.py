@@ -46,9 +46,9 @@ WORKED = worked()
 RULES, PAIR, PAIR_OUT = WORKED["pair"]
 GIVENS = PAIR[:48]
 PAIR_OK = "ok records 5 nodes 3 steps 1 peak 3 core 2"
-# MOST records that are placed 1,022 deep
+# 1,021 records that are placed 913 deep
 DEEP_RULES, DEEP, DEEP_OUT = WORKED["deep"]
-DEEP_OK = "ok records 2045 nodes 1023 steps 1021 peak 3 core 2"
+DEEP_OK = "ok records 2041 nodes 1021 steps 936 peak 40 core 85"
 
 
 def files(sheet=PAIR, rules=RULES, **more):
@@ -241,7 +241,7 @@ def in_little_stack(t):
     if "qemu" in t.words[0]:
         print("not run: little stack (the emulator gives the program one of its own)")
         return
-    rules = DEEP_RULES + bytes(1022 * 16)
+    rules = DEEP_RULES.ljust(1024 * 16, b"\0")
     t.answers("deep, in little stack", files(DEEP, rules), DEEP_OK, DEEP_OUT, before=stack_limit(STACK))
     old = files(DEEP, rules, pressed=OLD)
     t.answers("the same, in place", old, DEEP_OK, DEEP_OUT, before=stack_limit(STACK), folder_mode=0o555)
@@ -309,7 +309,7 @@ def unwritable(t, disk):
                 t.answers(f"no room after {most} of {len(old)} bytes", files(pressed=old), line, old, before=file_limit(most), folder_mode=mode)
     t.answers("room for all bytes", files(pressed=OLD), PAIR_OK, PAIR_OUT, before=file_limit(len(PAIR_OUT)))
     deep = files(DEEP, DEEP_RULES, pressed=OLD)
-    t.answers("no room for the last of 2,045 records", deep, line, OLD, before=file_limit(len(DEEP_OUT) - 1))
+    t.answers("no room for the last of 2,041 records", deep, line, OLD, before=file_limit(len(DEEP_OUT) - 1))
     if disk:
         # a page each for rules.bin, sheet.bin and pressed.bin, and none for the part
         t.answers("a full disk, over a pressed.bin", files(pressed=OLD), PAIR_OK, PAIR_OUT, at=disk)
@@ -339,7 +339,13 @@ def draw(t, seed, count):
     """The sheets and rule tables of random cases, those for the replay too: most of their drops are refused by 6."""
     words = [t.reference, "cases", "--seed", str(seed), "--count", str(count), "--edition", "narrow"]
     blocks = subprocess.run(words, check=True, capture_output=True, text=True).stdout.strip().split("\n\n")
-    return [[bytes.fromhex(w) if w != "-" else b"" for w in block.split("\n")[0].split()[2:4]] for block in blocks]
+    return [inputs(block.split("\n")[0].split()) for block in blocks]
+
+
+def inputs(words):
+    """The sheet and the rule table of a case's first line, which come after the edition, and of a press after the recycling."""
+    start = 3 if words[0] == "press" else 2
+    return [bytes.fromhex(w) if w != "-" else b"" for w in words[start : start + 2]]
 
 
 def compare(t, seed, count):

@@ -2,22 +2,25 @@
 // Each program over it is one call, with a stream of its own. No contract can say what is read or printed: these functions are proved
 // safe and ending, and what they print is compared.
 //
-// A case is fourteen bytes, then its sheet and its rule table. Numbers are little-endian.
+// A case is fifteen bytes, then its sheet and its rule table. Numbers are little-endian.
 //
 //   byte 0   what is run: 0 the press, 1 the replay, 2 the replay, shown record by record
 //   byte 1   the edition: 0 narrow, 1 wide
-//   2-3      bytes of the sheet, at most 49,176
-//   4-5      bytes of the rule table, at most 32,800
-//   6-7      bytes of room for the press, at most 49,188; slots for the replay
-//   8-9      bytes of marks for the press, at most 1,084; zero for the replay
-//   10-11    bytes of the sheet that follow; the rest of it is zero
-//   12-13    bytes of the rule table that follow; the rest of it is zero
+//   byte 2   the recycling of a press: 0 the reset, 1 the intersection; zero for the replay
+//   3-4      bytes of the sheet, at most 49,176
+//   5-6      bytes of the rule table, at most 32,800
+//   7-8      bytes of room for the press, at most 49,188; slots for the replay
+//   9-10     bytes of marks for the press, at most 1,084; zero for the replay
+//   11-12    bytes of the sheet that follow; the rest of it is zero
+//   13-14    bytes of the rule table that follow; the rest of it is zero
 //
 // Of a length beyond its limit the limit is taken. The stream ends where no whole case follows.
 
 mod press_case;
 mod replay_case;
 
+use press_spec::Plan;
+use press_spec::Recycling;
 use sheet::edition::Edition;
 use sheet::limits::TABLE_LINES;
 use sheet::narrow;
@@ -31,11 +34,12 @@ const SHEET: usize = narrow::RECORD_BYTES * (narrow::REPLAY_RECORDS + 2);
 const RULES: usize = wide::LINE_BYTES * (TABLE_LINES + 1);
 
 // The bytes before those of the sheet.
-const HEADER: usize = 14;
+const HEADER: usize = 15;
 
 struct Header {
     kind: u8,
     edition: Edition,
+    recycling: Recycling,
     sheet: usize,
     rules: usize,
     room: usize,
@@ -52,16 +56,25 @@ fn edition_of(byte: u8) -> Edition {
     }
 }
 
+fn recycling_of(byte: u8) -> Recycling {
+    if byte == 0 {
+        Recycling::Reset
+    } else {
+        Recycling::Intersection
+    }
+}
+
 fn header_of(bytes: &[u8; HEADER]) -> Header {
     Header {
         kind: bytes[0],
         edition: edition_of(bytes[1]),
-        sheet: base::wide(base::u16_at(bytes, 2)),
-        rules: base::wide(base::u16_at(bytes, 4)),
-        room: base::wide(base::u16_at(bytes, 6)),
-        marks: base::wide(base::u16_at(bytes, 8)),
-        sheet_follows: base::wide(base::u16_at(bytes, 10)),
-        rules_follows: base::wide(base::u16_at(bytes, 12)),
+        recycling: recycling_of(bytes[2]),
+        sheet: base::wide(base::u16_at(bytes, 3)),
+        rules: base::wide(base::u16_at(bytes, 5)),
+        room: base::wide(base::u16_at(bytes, 7)),
+        marks: base::wide(base::u16_at(bytes, 9)),
+        sheet_follows: base::wide(base::u16_at(bytes, 11)),
+        rules_follows: base::wide(base::u16_at(bytes, 13)),
     }
 }
 
@@ -72,12 +85,20 @@ fn print_edition(edition: Edition) {
     }
 }
 
+fn print_press(recycling: Recycling) {
+    match recycling {
+        Recycling::Reset => text::print(b" press reset"),
+        Recycling::Intersection => text::print(b" press intersection"),
+    }
+}
+
 fn print_header(number: u64, head: Header) {
     let edition = head.edition;
     text::print_number(b"case ", number);
     print_edition(edition);
     if head.kind == 0 {
-        text::print(b" press");
+        let recycling = head.recycling;
+        print_press(recycling);
     } else {
         text::print(b" replay");
     }
@@ -91,7 +112,9 @@ fn print_header(number: u64, head: Header) {
 fn run_inputs(head: Header, sheet: &[u8], rules: &[u8]) {
     let edition = head.edition;
     if head.kind == 0 {
-        press_case::run(edition, sheet, rules, head.room, head.marks);
+        let recycling = head.recycling;
+        let plan = Plan { edition, recycling };
+        press_case::run(plan, sheet, rules, head.room, head.marks);
         return;
     }
     replay_case::run(edition, sheet, rules, head.room);

@@ -1,6 +1,7 @@
 // A case of the press: its answer; where it is accepted, the output and the marks; and whether the bytes beyond them, or where it is refused
 // all of them, are as they were.
 use press::PressAnswer;
+use press_spec::Plan;
 use press_write::Pressed;
 use sheet::edition::Edition;
 use sheet::limits::TABLE_LINES;
@@ -71,7 +72,7 @@ fn print_outcome(edition: Edition, answer: PressAnswer, lines: usize, out: &[u8]
 
 // Of what is lent, the first bytes are the room and the marks.
 fn run_in(
-    edition: Edition,
+    plan: Plan,
     sheet: &[u8],
     rules: &[u8],
     room: usize,
@@ -81,13 +82,14 @@ fn run_in(
 ) {
     let n = stdio::least(room, out.len());
     let m = stdio::least(marks, core.len());
-    let answer = press::press(edition, sheet, rules, &mut out[..n], &mut core[..m]);
+    let answer = press::press(plan, sheet, rules, &mut out[..n], &mut core[..m]);
+    let edition = plan.edition;
     let lines = edition.lines_in(rules.len());
     print_outcome(edition, answer, lines, out, core);
 }
 
-pub(crate) fn run(edition: Edition, sheet: &[u8], rules: &[u8], room: usize, marks: usize) {
+pub(crate) fn run(plan: Plan, sheet: &[u8], rules: &[u8], room: usize, marks: usize) {
     let mut out = [OLD; ROOM];
     let mut core = [OLD; MARKS];
-    run_in(edition, sheet, rules, room, marks, &mut out, &mut core);
+    run_in(plan, sheet, rules, room, marks, &mut out, &mut core);
 }

@@ -20,7 +20,7 @@ use Rattle.press.specs.declared.PressAnswer.the-variants.{Accepted, Refused}
 use Rattle.press_write.specs.Reported.{reported}
 use Rattle.press.specs.Said.{said}
 use Rattle.press.proofs.Ready.{press-refused}
-use Rattle.program_whole.specs.Whole.{Starts, Fits}
+use Rattle.program_whole.specs.Whole.{programPlan, Starts, Fits}
 
 module _ (z : Sizes) (fine : checkPress Narrow z ≡ W.Fine) where
   enough : Enough Narrow z (z .sheet / recordBytes Narrow)
@@ -34,18 +34,18 @@ module _ (z : Sizes) (fine : checkPress Narrow z ≡ W.Fine) where
 
 pub whole-refused : (v : Verdict) (why : Reason) (m n : ℕ) (sheet rules out marks s t : List ℕ)
     → v ≡ checkPress Narrow (sizes m n (length out) (length marks)) → v ≡ W.Refused why → Starts s m sheet → Starts t n rules
-    → outcome (said (Refused why (record { 0 = 0 }))) out marks ≡ press Narrow (call s t out marks)
-whole-refused v why m n sheet rules out marks s t q e a b = press-refused Narrow (call s t out marks) v why (rw (a .0, b .0) q) e
+    → outcome (said (Refused why (record { 0 = 0 }))) out marks ≡ press programPlan (call s t out marks)
+whole-refused v why m n sheet rules out marks s t q e a b = press-refused programPlan (call s t out marks) v why (rw (a .0, b .0) q) e
 
 pub whole-pressed : (m n : ℕ) (sheet rules out marks s t : List ℕ) (o : Outcome) → m ≤ length sheet → n ≤ length rules
-    → Starts s m sheet → Starts t n rules → o ≡ press Narrow (call (take m sheet) (take n rules) out marks) → o ≡ press Narrow (call s t out marks)
+    → Starts s m sheet → Starts t n rules → o ≡ press programPlan (call (take m sheet) (take n rules) out marks) → o ≡ press programPlan (call s t out marks)
 whole-pressed m n sheet rules out marks s t o i j a b e = rw (a .1 i, b .1 j) e
 
-pub accepted-fits : (r : PressAnswer) (c : Call) (out marks : List ℕ) → outcome (said r) out marks ≡ press Narrow c → Fits (length (c .out)) r
+pub accepted-fits : (r : PressAnswer) (c : Call) (out marks : List ℕ) → outcome (said r) out marks ≡ press programPlan c → Fits (length (c .out)) r
 unfolding said
 accepted-fits (Accepted p) c out marks e =
-    let y = accepted-says Narrow c (reported p) (sym (ap (λ (o : Outcome). o .answer) e)) in
-    let s = pressed (y .input) in
+    let y = accepted-says programPlan c (reported p) (sym (ap (λ (o : Outcome). o .answer) e)) in
+    let s = pressed programPlan (y .input) in
     let most = length-withDrops-most s (proper-falling Narrow (c .rules) s (y .kept .proper)) in
     omega (arith, y .recorded, most, y .kept .fits, y .kept .some, y .enough .1 .0)
 accepted-fits (Refused why k) c out marks e = tt

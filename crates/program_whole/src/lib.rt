@@ -7,12 +7,20 @@ ghost use Rattle.sheet.specs.declared.edition.Edition.the-variants.{Narrow};
 ghost use Rattle.sheet.specs.Editions.{recordBytes, lineBytes, pressRecords, tableLines};
 ghost use Rattle.press.specs.Said.{said};
 ghost use Rattle.press_spec.specs.Press.{call, outcome, press};
-ghost use Rattle.program_whole.specs.Whole.{Starts, Fits};
+ghost use Rattle.program_whole.specs.Whole.{programPlan, Starts, Fits};
 use press::PressAnswer;
+use press_spec::Plan;
+use press_spec::Recycling;
 use press_write::Pressed;
 use sheet::RecordNo;
 use sheet::Verdict;
 use sheet::edition::Edition;
+
+// What the program presses by.
+pub const PLAN: Plan = Plan {
+    edition: Edition::Narrow,
+    recycling: Recycling::Intersection,
+};
 
 // Presses two files of the narrow edition, of which the starts are at hand: the answer is that of the whole files.
 pub fn press_whole(
@@ -24,7 +32,7 @@ pub fn press_whole(
     marks: &mut [u8],
 ) -> PressAnswer
     requires { ⌜ (recordBytes Narrow * pressRecords Narrow ≤ length (now sheet)) × (lineBytes Narrow * tableLines Narrow ≤ length (now rules)) ⌝ }
-    ensures whole { λ r. ⌜ ((s t : List ℕ) → Starts s «sheet_length» (now (sheet .entry)) → Starts t «rules_length» (now (rules .entry)) → outcome (said r) (now (out .exit)) (now (marks .exit)) ≡ press Narrow (call s t (now (out .entry)) (now (marks .entry)))) ⌝ }
+    ensures whole { λ r. ⌜ ((s t : List ℕ) → Starts s «sheet_length» (now (sheet .entry)) → Starts t «rules_length» (now (rules .entry)) → outcome (said r) (now (out .exit)) (now (marks .exit)) ≡ press programPlan (call s t (now (out .entry)) (now (marks .entry)))) ⌝ }
     ensures fits { λ r. ⌜ Fits (length (now (out .entry))) r ⌝ }
 {
     let verdict = press_judge::judge_lengths(
@@ -39,7 +47,7 @@ pub fn press_whole(
         Verdict::Refused(why) => return PressAnswer::Refused(why, RecordNo(0)),
     }
     press::press(
-        Edition::Narrow,
+        PLAN,
         &sheet[..sheet_length],
         &rules[..rules_length],
         out,
