@@ -45,6 +45,7 @@ ALLOWED = [
     ("demands/specs/Starred.antt", "", "worked sheets, byte by byte"),
     ("demands/specs/Telling.antt", "", "worked sheets, byte by byte"),
     ("demands/specs/Wide.antt", "", "worked sheets, byte by byte"),
+    ("demands/specs/Recyclings.antt", "", "worked sheets, byte by byte"),
     ("demands/specs/Cases.antt", "needed Narrow n = 48 * n - 24", "the document's own numbers, which the tables compare with what the press asks for"),
     ("demands/specs/Cases.antt", "needed Wide n = 80 * n - 40", "the same for the wide edition"),
     ("demands/specs/Limits.antt", "PressLimit Narrow 1024 1025", "the document's own numbers; the proof compares them with the named limit"),
