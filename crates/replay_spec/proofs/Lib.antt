@@ -8,3 +8,4 @@ pub mod Accepts
 pub mod Refuses
 pub mod Sound
 pub mod Plenty
+pub mod Lines
