@@ -87,6 +87,18 @@ impl Shelf {
         self.rules.iter().flat_map(line).collect()
     }
 
+    /// The rule table where this line, or the one after the last, says this.
+    pub fn rules_with(&self, line: usize, words: &str) -> Result<Vec<u8>, String> {
+        let words = words.replace("(empty)", "");
+        let literals = words.split_whitespace().map(|word| self.literal(word));
+        let clause: Result<Clause, _> = literals.collect();
+        let size = EDITION.line_bytes();
+        let mut rules = self.rules();
+        rules.resize(rules.len().max((line + 1) * size), 0);
+        rules[line * size..][..size].copy_from_slice(&clause?.write(EDITION));
+        Ok(rules)
+    }
+
     pub fn sheet(&self) -> Vec<u8> {
         let record = |(_, node): &(String, Node)| Record::Node(node.clone()).write(EDITION);
         self.nodes.iter().flat_map(record).collect()
@@ -139,6 +151,34 @@ impl Shelf {
         };
         clause.literals().map(word).collect::<Vec<_>>().join(" ")
     }
+}
+
+/// A row of the page's table of changes: a rule line, what it says instead, and
+/// what the replay of the pressed sheet answers with as many slots as the peak
+/// and with one less.
+pub struct Change {
+    pub line: usize,
+    pub words: String,
+    pub answers: [String; 2],
+}
+
+/// The rows below the head `| line | says instead | ..`.
+pub fn changes(page: &str) -> Vec<Change> {
+    let row = |row: &str| {
+        let cells: Vec<&str> = row.split('|').map(str::trim).collect();
+        let ["", line, words, _, at_peak, below, ""] = cells[..] else {
+            return None;
+        };
+        Some(Change {
+            line: line.parse().ok()?,
+            words: words.to_string(),
+            answers: [at_peak, below].map(str::to_string),
+        })
+    };
+    let rows = page.lines();
+    let mut rows = rows.skip_while(|row| !row.starts_with("| line | says instead |"));
+    rows.nth(1);
+    rows.map_while(row).collect()
 }
 
 fn find<T>(named: &[(String, T)], name: &str) -> Result<usize, String> {

@@ -1,8 +1,11 @@
 //! The sample shelf: the committed files, what its page says of them, and how a
 //! shelf is told.
 
+mod common;
+
+use common::{press_ok, replay_answer};
 use reference::program;
-use reference::shelf::Shelf;
+use reference::shelf::{changes, Shelf};
 use std::fs;
 use std::path::{Path, PathBuf};
 
@@ -45,6 +48,42 @@ fn the_page_says_what_is_printed() {
     assert_eq!(Some(pressed), shelf.pressed());
     let page = fs::read_to_string(committed().join("README.md")).unwrap();
     assert!(page.contains(&format!("    {line}\n")));
+}
+
+/// What the replay of the pressed sheet answers.
+fn said(rules: &[u8], slots: usize) -> String {
+    match replay_answer(&told().pressed().unwrap(), rules, slots) {
+        Ok(_) => "accepted".to_string(),
+        Err((number, record)) => format!("{number} at {record}"),
+    }
+}
+
+/// An unmarked line, or one more, changes nothing, and each row of the page's
+/// table has the answers that the replay gives.
+#[test]
+fn the_page_says_what_the_technician_may_change() {
+    let shelf = told();
+    let done = press_ok(&shelf.sheet(), &shelf.rules());
+    assert_eq!(done.core, [0, 1, 2, 3, 4, 5, 7, 8]);
+    let page = fs::read_to_string(committed().join("README.md")).unwrap();
+    let rows = changes(&page);
+    assert_eq!(rows.len(), 9);
+    for row in rows {
+        let rules = shelf.rules_with(row.line, &row.words).unwrap();
+        let peak = done.pressed.peak;
+        let answers = |rules: &[u8]| [peak, peak - 1].map(|slots| said(rules, slots));
+        assert_eq!(answers(&rules), row.answers, "line {}", row.line);
+        let same = answers(&shelf.rules()) == row.answers;
+        assert_eq!(same, !done.core.contains(&row.line));
+    }
+}
+
+/// Without the lamp's line those after it move up.
+#[test]
+fn the_lamps_line_is_not_to_be_taken_out() {
+    let mut rules = told().rules();
+    rules.drain(6 * 16..7 * 16);
+    assert_eq!(said(&rules, 6), "13 at 0");
 }
 
 #[test]
