@@ -1,4 +1,4 @@
--- What each pass makes of a proper sheet, whatever is lent and whatever the plan chooses, where no edition and no choice is named.
+-- What each pass makes of a proper sheet. A statement that names no edition and no choice holds for all of them.
 use Prim.Native.Nat.{ℕ, _<_}
 use mathlib.Core.Path.{_≡_}
 use mathlib.Core.Bool.{true, false}
