@@ -1,6 +1,6 @@
 #!/usr/bin/env python3
 """definitions.py [--seed S] [--count N] [--edition narrow|wide]: has antt compute the definitions of press and replay on random cases of the
-second program, of both editions if none is named. A press is of the recycling that the case names.
+second program, of both editions if none is named. A press is of the recycling and the lowering that the case names.
 
 Writes a scratch repository (the crates, and one crate more whose statements are the cases) outside the tree and checks it. A case is
 right if the answer, every byte of output and marks, every slot, and the tally and the slots after each record are what the second
@@ -50,7 +50,7 @@ def case(block):
     said, refused = answer(block[1].split())
     edition = words[1].capitalize()
     if words[0] == "press":
-        recycling = words.pop(2).capitalize()
+        passes = f"{words.pop(2)} {words.pop(2)}".title()
     sheet, _ = byte_list(words[2])
     rules, _ = byte_list(words[3])
     if words[0] == "press":
@@ -60,7 +60,7 @@ def case(block):
         if not refused:
             out = f"({out} ++ junk {room - wrote})"
             marked = f"({marked} ++ junk {marks - count})"
-        return f"pressed {edition} {recycling} {sheet} {rules} {room} {marks} {numbers(said)} {out} {marked}"
+        return f"pressed {edition} {passes} {sheet} {rules} {room} {marks} {numbers(said)} {out} {marked}"
     slots = int(words[4])
     after = "dirty" if refused and said[0] <= 4 else "clean"
     replayed = f"replayed {edition} {sheet} {rules} {slots} {numbers(said)} ({after} {slots})"
@@ -85,6 +85,8 @@ use Rattle.replay_spec.specs.Replay as Replay
 use Rattle.replay_spec.specs.Replay.{start}
 use Rattle.press_spec.specs.declared.Recycling.{Recycling}
 use Rattle.press_spec.specs.declared.Recycling.the-variants.{Reset, Intersection}
+use Rattle.press_spec.specs.declared.Lowering.{Lowering}
+use Rattle.press_spec.specs.declared.Lowering.the-variants.{Nothing, Units}
 use Rattle.press_spec.specs.Plans.{plan}
 use Rattle.press_spec.specs.Press as Press
 use Rattle.demands.specs.Cases as Cases
@@ -93,9 +95,9 @@ use Rattle.demands.proofs.Computing.{computing}
 """
 
 TRACE = """
-unfoldable pub pressed : Edition → Recycling → List ℕ → List ℕ → ℕ → ℕ → List ℕ → List ℕ → List ℕ → Bool
-pressed e how sheet rules room marks said out marked =
-    pressIs (Press.press (plan e how) (Press.call sheet rules (junk room) (junk marks))) said out marked
+unfoldable pub pressed : Edition → Recycling → Lowering → List ℕ → List ℕ → ℕ → ℕ → List ℕ → List ℕ → List ℕ → Bool
+pressed e how what sheet rules room marks said out marked =
+    pressIs (Press.press (plan e how what) (Press.call sheet rules (junk room) (junk marks))) said out marked
 
 unfoldable pub replayed : Edition → List ℕ → List ℕ → ℕ → List ℕ → List Slot → Bool
 replayed e sheet rules slots said after = replayIs (Replay.replay e sheet rules (dirty slots)) said after

@@ -1,7 +1,8 @@
 //! Interesting things that may happen inside an accepted press.
 
-use crate::passes::drops::peak;
-use crate::passes::order::order_by;
+use crate::passes::drops::{peak, with_drops};
+use crate::passes::lower::{Lowered, Return};
+use crate::passes::order::{order, order_by};
 use crate::passes::rebuild::Why;
 use crate::passes::recycle::{uncut_edges, Edge};
 use crate::plan::{Plan, Recycling};
@@ -17,6 +18,10 @@ pub fn pass_events(plan: Plan, passes: &Passes) -> Vec<Event> {
     let parts = [
         shortening_events(passes),
         sharing_events(plan.recycling, passes),
+        match &passes.lowered {
+            None => vec![],
+            Some(lowered) => lowering_events(passes, lowered),
+        },
         order_events(passes),
         output_events(passes),
     ];
@@ -52,7 +57,7 @@ fn shortening_events(passes: &Passes) -> Vec<Event> {
         ),
         (
             "second trim: removed something",
-            passes.pressed.nodes.len() < rebuilt,
+            passes.recycled.nodes.len() < rebuilt,
         ),
     ]
 }
@@ -168,6 +173,60 @@ fn sharing_events(recycling: Recycling, passes: &Passes) -> Vec<Event> {
     }
 }
 
+/// What lowering came to.
+fn lowering_events(passes: &Passes, lowered: &Lowered) -> Vec<Event> {
+    let Lowered { units, returns, .. } = lowered;
+    let before = &passes.recycled;
+    let literals: BTreeSet<_> = units.iter().map(|unit| unit.literal).collect();
+    let rebuilt = |node: usize| lowered.nodes[&lowered.rebuilt.stand_ins[&node]].clause();
+    let records = with_drops(before, &order(before));
+    let [old_peak, new_peak] = [&records, &passes.records].map(|records| peak(records));
+    let both_ways = |proof: &Proof| {
+        let mut nodes = proof.nodes.values();
+        nodes.any(|node| node.clause().holds_both_ways())
+    };
+    vec![
+        ("lower: a unit", !units.is_empty()),
+        ("lower: three or more", units.len() >= 3),
+        ("lower: one literal twice", literals.len() < units.len()),
+        (
+            "lower: an opposite is passed over",
+            passed_over(passes, lowered),
+        ),
+        (
+            "lower: a unit by another one",
+            units
+                .iter()
+                .any(|of| rebuilt(of.node) != before.nodes[&of.node].clause()),
+        ),
+        (
+            "lower: the conclusion stays",
+            returns.contains(&Return::Stays),
+        ),
+        (
+            "lower: the conclusion has fewer literals",
+            passes.pressed.conclusion() != before.conclusion(),
+        ),
+        (
+            "lower: a variable both ways is new",
+            both_ways(&passes.pressed) && !both_ways(before),
+        ),
+        ("lower: a higher peak", new_peak > old_peak),
+        ("lower: a lower peak", new_peak < old_peak),
+    ]
+}
+
+/// Whether a unit was not collected because its opposite was.
+fn passed_over(passes: &Passes, lowered: &Lowered) -> bool {
+    let uses = passes.recycled.uses();
+    let mut nodes = passes.recycled.nodes.iter();
+    nodes.any(|(number, node)| {
+        let literals: Vec<_> = node.clause().literals().collect();
+        let collected = lowered.units.iter().any(|unit| unit.node == *number);
+        literals.len() == 1 && uses[number] >= 2 && !collected
+    })
+}
+
 /// Whether the two recyclings part.
 pub fn parting_events([reset, intersection]: &[Passes; 2]) -> Vec<Event> {
     let steps = [reset, intersection].map(|passes| passes.pressed.steps());
@@ -196,7 +255,7 @@ fn cuts_again(passes: &Passes) -> bool {
 
 fn has_new_clause(passes: &Passes) -> bool {
     let differs = |(n, node): (&usize, &Node)| node.clause() != passes.trimmed.nodes[n].clause();
-    passes.pressed.nodes.iter().any(differs)
+    passes.recycled.nodes.iter().any(differs)
 }
 
 fn names_twice(proof: &Proof) -> bool {

@@ -132,7 +132,8 @@ fn write_tables(dir: &str) -> Result<(), String> {
     write(dir, "Starred.antt", tables::starred().as_bytes())?;
     write(dir, "Telling.antt", tables::telling().as_bytes())?;
     write(dir, "Wide.antt", tables::wide().as_bytes())?;
-    write(dir, "Recyclings.antt", tables::recyclings().as_bytes())
+    write(dir, "Recyclings.antt", tables::recyclings().as_bytes())?;
+    write(dir, "Lowerings.antt", tables::lowerings().as_bytes())
 }
 
 fn write(dir: &str, name: &str, bytes: &[u8]) -> Result<(), String> {

@@ -35,19 +35,74 @@ impl Recycling {
     }
 }
 
+/// What is lowered after step 4. Document 02 (i): "as an option".
+#[derive(Clone, Copy, Debug, PartialEq, Eq, PartialOrd, Ord)]
+pub enum Lowering {
+    Nothing,
+    Units,
+}
+
+use Lowering::{Nothing, Units};
+
+impl Lowering {
+    pub const ALL: [Lowering; 2] = [Nothing, Units];
+
+    /// The number that names it in a stream of cases and for C.
+    pub fn number(self) -> u8 {
+        match self {
+            Nothing => 0,
+            Units => 1,
+        }
+    }
+
+    pub fn word(self) -> &'static str {
+        match self {
+            Nothing => "nothing",
+            Units => "units",
+        }
+    }
+
+    pub fn of_word(word: &str) -> Option<Lowering> {
+        Lowering::ALL.into_iter().find(|of| of.word() == word)
+    }
+}
+
 #[derive(Clone, Copy, Debug, PartialEq, Eq)]
 pub struct Plan {
     pub edition: Edition,
     pub recycling: Recycling,
+    pub lowering: Lowering,
 }
 
 impl Plan {
     /// "The program and the text reader stay with 64 variables"; of the two
-    /// recyclings "the program takes the new one".
+    /// recyclings "the program takes the new one"; of lowering, "The program goes
+    /// on without it."
     pub const PROGRAM: Plan = Plan {
         edition: Edition::Narrow,
         recycling: Intersection,
+        lowering: Nothing,
     };
+
+    /// The program's passes, in this edition.
+    pub fn program_in(edition: Edition) -> Plan {
+        Plan {
+            edition,
+            ..Plan::PROGRAM
+        }
+    }
+
+    /// Every choice of passes, in this edition.
+    pub fn all(edition: Edition) -> Vec<Plan> {
+        let by = |recycling| {
+            Lowering::ALL.map(|lowering| Plan {
+                edition,
+                recycling,
+                lowering,
+            })
+        };
+        Recycling::ALL.map(by).concat()
+    }
 }
 
 #[cfg(test)]
@@ -61,5 +116,14 @@ mod tests {
             assert_eq!(Recycling::of_word(of.word()), Some(of));
         }
         assert_eq!(Recycling::of_word("union"), None);
+    }
+
+    #[test]
+    fn a_lowering_is_named_by_its_number_and_its_word() {
+        for (number, of) in Lowering::ALL.into_iter().enumerate() {
+            assert_eq!(usize::from(of.number()), number);
+            assert_eq!(Lowering::of_word(of.word()), Some(of));
+        }
+        assert_eq!(Lowering::of_word("everything"), None);
     }
 }

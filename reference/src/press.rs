@@ -4,11 +4,12 @@ use crate::edition::Edition;
 use crate::judge::{faults, judge, Around, Named};
 use crate::lengths::{check_inputs, check_room};
 use crate::passes::drops::{peak, with_drops};
+use crate::passes::lower::{lower_units, Lowered};
 use crate::passes::order::order;
 use crate::passes::rebuild::{rebuild, Rebuilt};
-use crate::passes::recycle::{recycle, Visits};
+use crate::passes::recycle::{cuts, recycle, Visits};
 use crate::passes::trim::trim;
-use crate::plan::Plan;
+use crate::plan::{Lowering, Plan};
 use crate::proof::{Node, Proof};
 use crate::record::Record;
 use crate::refusal::Refusal;
@@ -34,6 +35,9 @@ pub struct Passes {
     pub trimmed: Proof,
     pub visits: Visits,
     pub rebuilt: Rebuilt,
+    /// What step 4 leaves.
+    pub recycled: Proof,
+    pub lowered: Option<Lowered>,
     pub pressed: Proof,
     pub order: Vec<usize>,
     pub records: Vec<Record>,
@@ -113,8 +117,16 @@ pub fn record_faults(
 pub fn run_passes(plan: Plan, input: Proof) -> Passes {
     let trimmed = trim(&input.nodes, input.sink);
     let visits = recycle(&trimmed, plan.recycling);
-    let rebuilt = rebuild(&trimmed, &visits);
-    let pressed = trim(&rebuilt.nodes, rebuilt.stand_ins[&trimmed.sink]);
+    let rebuilt = rebuild(&trimmed, &cuts(&visits));
+    let recycled = trim(&rebuilt.nodes, rebuilt.stand_ins[&trimmed.sink]);
+    let lowered = match plan.lowering {
+        Lowering::Nothing => None,
+        Lowering::Units => Some(lower_units(&recycled)),
+    };
+    let pressed = match &lowered {
+        None => recycled.clone(),
+        Some(lowered) => trim(&lowered.nodes, lowered.conclusion),
+    };
     let order = order(&pressed);
     let records = with_drops(&pressed, &order);
     Passes {
@@ -122,6 +134,8 @@ pub fn run_passes(plan: Plan, input: Proof) -> Passes {
         trimmed,
         visits,
         rebuilt,
+        recycled,
+        lowered,
         pressed,
         order,
         records,

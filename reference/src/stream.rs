@@ -1,20 +1,20 @@
 //! Cases as a stream of bytes, and what a program that runs them prints.
 //!
-//! A case is fifteen bytes, then its sheet and its rule table. Byte 0 says what
+//! A case is sixteen bytes, then its sheet and its rule table. Byte 0 says what
 //! is run: 0 the press, 1 the replay, 2 the replay shown record by record. Byte
 //! 1 is the edition: 0 narrow, 1 wide. Byte 2 is a press's recycling: 0 reset, 1
-//! intersection; of a replay it is 0. Then come six numbers of two bytes,
-//! little-endian: bytes of the sheet, bytes of the rule table, bytes of room or
-//! the number of slots, bytes of marks or zero; and how many bytes of the sheet
-//! and of the rule table follow. The rest of each is zero, so that long ones
-//! need few bytes.
+//! intersection. Byte 3 is its lowering: 0 nothing, 1 units. Of a replay both are
+//! 0. Then come six numbers of two bytes, little-endian: bytes of the sheet,
+//! bytes of the rule table, bytes of room or the number of slots, bytes of marks
+//! or zero; and how many bytes of the sheet and of the rule table follow. The
+//! rest of each is zero, so that long ones need few bytes.
 //!
 //! What is printed is, for each case, its number, its edition, what is run, a
-//! press's recycling and the first four numbers, and then the answer's line
-//! (`text`). After a press come the output and the marks, if it is accepted, and
-//! whether all that they may not touch is untouched. Of a replay that is shown, each record has a line: `taken` or
-//! `refused <number> <record>`, and the tally and the slots then. After a
-//! refused record there is none.
+//! press's recycling and lowering and the first four numbers, and then the
+//! answer's line (`text`). After a press come the output and the marks, if it is
+//! accepted, and whether all that they may not touch is untouched. Of a replay
+//! that is shown, each record has a line: `taken` or `refused <number> <record>`,
+//! and the tally and the slots then. After a refused record there is none.
 
 use crate::cases::{draw, Case, Size};
 use crate::edition::Edition;
@@ -22,7 +22,7 @@ use crate::lengths::check_inputs;
 use crate::plan::Plan;
 use crate::press::press;
 use crate::replay::{replay, step, Slot, Tally};
-use crate::text::{hex, pressed_line, refused, replayed_line, trace_line};
+use crate::text::{hex, passes_words, pressed_line, refused, replayed_line, trace_line};
 
 /// The most that a program that runs a stream has memory for: a little more than
 /// either edition allows or needs.
@@ -115,12 +115,13 @@ fn stored(bytes: &[u8]) -> &[u8] {
 
 fn bytes(entry: &Entry) -> Vec<u8> {
     let (sheet, rules, room, marks) = parts(&entry.case);
-    let (kind, recycling) = match (&entry.case, entry.shown) {
-        (Case::Press { plan, .. }, _) => (0, plan.recycling.number()),
-        (Case::Replay { .. }, false) => (1, 0),
-        (Case::Replay { .. }, true) => (2, 0),
+    let (kind, passes) = match (&entry.case, entry.shown) {
+        (Case::Press { plan, .. }, _) => (0, [plan.recycling.number(), plan.lowering.number()]),
+        (Case::Replay { .. }, false) => (1, [0, 0]),
+        (Case::Replay { .. }, true) => (2, [0, 0]),
     };
-    let mut bytes = vec![kind, entry.case.edition().number(), recycling];
+    let mut bytes = vec![kind, entry.case.edition().number()];
+    bytes.extend(passes);
     let (sheet_stored, rules_stored) = (stored(sheet), stored(rules));
     let lengths = [sheet.len(), rules.len(), room, marks];
     for number in [&lengths[..], &[sheet_stored.len(), rules_stored.len()]].concat() {
@@ -136,7 +137,7 @@ fn printed(number: usize, entry: &Entry) -> String {
     let (sheet, rules, room, marks) = parts(&entry.case);
     let (run, answer) = match entry.case {
         Case::Press { plan, .. } => {
-            let run = format!("press {}", plan.recycling.word());
+            let run = format!("press {}", passes_words(plan));
             (run, pressed(plan, sheet, rules, room, marks))
         }
         Case::Replay { edition, .. } => {

@@ -2,12 +2,12 @@
 //!
 //! Each case is a block of lines that ends with an empty line. Words are
 //! separated by single spaces. An edition is `narrow` or `wide`, a recycling
-//! `reset` or `intersection`. Byte strings are lower-case hex, `-` if empty;
-//! sets are numbers whose bit v is variable v, of 16 hex digits, or 32 in the
-//! wide edition; all else is decimal.
+//! `reset` or `intersection`, a lowering `nothing` or `units`. Byte strings are
+//! lower-case hex, `-` if empty; sets are numbers whose bit v is variable v, of
+//! 16 hex digits, or 32 in the wide edition; all else is decimal.
 //!
 //! ```text
-//! press <edition> <recycling> <sheet> <rules> <bytes of room> <bytes of marks>
+//! press <edition> <recycling> <lowering> <sheet> <rules> <bytes of room> <bytes of marks>
 //! = ok <positive> <negative> records R nodes N steps S peak P marked M
 //! out <the emitted records>
 //! marks <one byte for each rule line>
@@ -50,7 +50,7 @@ pub fn block(case: &Case, with_trace: bool) -> String {
 
 fn press_block(plan: Plan, sheet: &[u8], rules: &[u8], room: usize, marks: usize) -> String {
     let edition = plan.edition;
-    let told = format!("{} {}", edition.word(), plan.recycling.word());
+    let told = format!("{} {}", edition.word(), passes_words(plan));
     let question = format!(
         "press {told} {} {} {room} {marks}\n",
         hex(sheet),
@@ -92,6 +92,11 @@ fn replay_block(
             Ok(replayed) => replayed_line(edition, &replayed),
         }
         + &trace
+}
+
+/// The words for the passes chosen.
+pub(crate) fn passes_words(plan: Plan) -> String {
+    format!("{} {}", plan.recycling.word(), plan.lowering.word())
 }
 
 pub(crate) fn refused(refusal: &Refusal) -> String {

@@ -2,24 +2,18 @@
 
 mod common;
 
+use common::lowering::within;
 use common::wide::*;
 use common::*;
 use reference::sheets::{rules, sheet};
 
 type Answer = Result<(u128, u128), (u32, usize)>;
 
-/// The program's passes, in this edition.
-fn plan(edition: Edition) -> Plan {
-    Plan {
-        edition,
-        ..Plan::PROGRAM
-    }
-}
-
 /// What the press answers with ample room, and the replay with ample slots.
 fn answers(edition: Edition, sheet: &[u8], rules: &[u8]) -> [Answer; 2] {
     let (mut out, mut marks) = (vec![0; 2 * sheet.len() + 48], vec![0; 2000]);
-    let pressed = reference::press::press(plan(edition), sheet, rules, &mut out, &mut marks);
+    let plan = Plan::program_in(edition);
+    let pressed = reference::press::press(plan, sheet, rules, &mut out, &mut marks);
     let pressed = pressed.map(|done| (done.positive, done.negative));
     let replayed = replay_traced_in(edition, sheet, rules, 2000).0;
     [
@@ -103,15 +97,26 @@ fn irregular_loses_two_steps_over_63_too() {
 /// A sheet without variables over 63 is pressed alike in both editions.
 #[test]
 fn both_editions_press_alike() {
-    let told = [mirrored(), shared_reset(), second_trim(), places()];
+    let told = [
+        mirrored(),
+        shared_reset(),
+        second_trim(),
+        places(),
+        within(),
+    ];
     for worked in starred_and(&told) {
         let wide = worked.clone().in_edition(Wide);
-        for recycling in Recycling::ALL {
-            let records = worked.pressed(recycling);
-            assert_eq!(wide.pressed(recycling), records);
-            let done = press_worked(recycling, &wide);
+        for Plan {
+            recycling,
+            lowering,
+            ..
+        } in Plan::all(Wide)
+        {
+            let records = worked.pressed(recycling, lowering);
+            assert_eq!(wide.pressed(recycling, lowering), records);
+            let done = press_lowering(recycling, lowering, &wide);
             assert_eq!(done.out, sheet(Wide, &records.unwrap()));
-            let narrow = press_worked(recycling, &worked);
+            let narrow = press_lowering(recycling, lowering, &worked);
             assert_eq!((done.pressed, done.core), (narrow.pressed, narrow.core));
         }
     }
@@ -140,7 +145,8 @@ fn wide_room_and_marks() {
         let lines = rules.len() / 32;
         let needed = 80 * (sheet.len() / 40) - 40;
         let (mut out, mut marks) = (vec![0; needed], vec![0; lines]);
-        assert!(reference::press::press(plan(Wide), &sheet, &rules, &mut out, &mut marks).is_ok());
+        let plan = Plan::program_in(Wide);
+        assert!(reference::press::press(plan, &sheet, &rules, &mut out, &mut marks).is_ok());
         for lent in [(needed - 1, lines), (needed, lines - 1)] {
             let refused = press_refused_in(Wide, &sheet, &rules, Some(lent));
             assert_eq!(refused, (5, 0));

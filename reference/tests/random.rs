@@ -132,19 +132,21 @@ fn small_cases_are_small() {
 }
 
 /// About a third of the cases name the wide edition, and about half of the
-/// presses the intersection.
+/// presses the intersection, and the units.
 #[test]
-fn cases_are_of_both_editions_and_recyclings() {
+fn cases_are_of_both_editions_and_of_all_passes() {
     let cases: Vec<Case> = (0..CASES).map(|n| draw(15, n, Size::Small)).collect();
     let wide = cases.iter().filter(|case| case.edition() == Wide).count();
     assert!((cases.len() * 30 / 100..cases.len() * 37 / 100).contains(&wide));
     let plans = cases.iter().filter_map(|case| match case {
-        Case::Press { plan, .. } => Some(plan.recycling),
+        Case::Press { plan, .. } => Some(plan),
         Case::Replay { .. } => None,
     });
-    let recyclings: Vec<Recycling> = plans.collect();
-    let new = recyclings.iter().filter(|&&of| of == Intersection).count();
-    assert!((recyclings.len() * 45 / 100..recyclings.len() * 55 / 100).contains(&new));
+    let plans: Vec<&Plan> = plans.collect();
+    let half = plans.len() * 45 / 100..plans.len() * 55 / 100;
+    let by = |of: fn(&Plan) -> bool| plans.iter().filter(|plan| of(plan)).count();
+    assert!(half.contains(&by(|plan| plan.recycling == Intersection)));
+    assert!(half.contains(&by(|plan| plan.lowering == Units)));
 }
 
 #[test]

@@ -9,9 +9,8 @@ use reference::cases::shapes;
 use reference::cases::stages::{ladder, stages, Givens};
 use reference::clause::Clause;
 use reference::passes::recycle::{uncut_edges, Edge};
-use reference::press::{read_proof, run_passes, Passes};
+use reference::press::Passes;
 use reference::proof::Node;
-use reference::rng::Rng;
 use std::collections::BTreeMap;
 
 /// The sets S that recycling finds, of some nodes.
@@ -91,16 +90,7 @@ fn the_recyclings_part_in_both_directions() {
 
 /// The presses of random proofs by this recycling.
 fn random(recycling: Recycling) -> impl Iterator<Item = Passes> {
-    (0..2000).filter_map(move |index| {
-        let mut rng = Rng::new(21, index);
-        let edition = rng.pick(&Edition::ALL);
-        let size = rng.between(2, 60);
-        let draft = shapes::draw(&mut rng, edition, size);
-        let proof = read_proof(edition, &draft.sheet(edition), &draft.rule_table(edition));
-        let plan = Plan { edition, recycling };
-        // now and then a rule line holds a variable both ways: 17
-        Some(run_passes(plan, proof.ok()?))
-    })
+    random_passes(21, 2000, recycling, Nothing, shapes::draw)
 }
 
 /// What each uncut edge of a reached step hands to the node that it leads to.

@@ -86,7 +86,7 @@ struct Plan {
 
 /// Two clauses that resolve on `pivot` to exactly `goal`. The left one can't
 /// bring +pivot into the result and the right one can't bring -pivot.
-fn split(rng: &mut Rng, goal: &Clause, pivot: u8) -> (Clause, Clause) {
+pub(super) fn split(rng: &mut Rng, goal: &Clause, pivot: u8) -> (Clause, Clause) {
     let mut left = Clause::default().with(Literal::Plus(pivot));
     let mut right = Clause::default().with(Literal::Minus(pivot));
     for literal in goal.literals() {

@@ -5,6 +5,7 @@ pub mod damage;
 pub mod dense;
 pub mod draft;
 pub mod drop_damage;
+pub mod facts;
 pub mod forward;
 pub mod press_cases;
 pub mod replay_cases;

@@ -3,7 +3,7 @@
 use crate::cases::damage::{noise, spoil_length, spoil_records, spoil_rule_table, stir_records};
 use crate::cases::{shapes, Case, Size};
 use crate::edition::Edition;
-use crate::plan::{Plan, Recycling};
+use crate::plan::{Lowering, Plan, Recycling};
 use crate::rng::Rng;
 
 const SMALL_NODES: usize = 16;
@@ -31,9 +31,13 @@ pub fn draw(rng: &mut Rng, edition: Edition, size: Size) -> Case {
         spoil_length(rng, edition, edition.press_records(), &mut sheet, small);
     }
     let (room, marks) = draw_room(rng, edition, sheet.len(), rules.len());
-    let recycling = rng.pick(&Recycling::ALL);
+    let plan = Plan {
+        edition,
+        recycling: rng.pick(&Recycling::ALL),
+        lowering: rng.pick(&Lowering::ALL),
+    };
     Case::Press {
-        plan: Plan { edition, recycling },
+        plan,
         sheet,
         rules,
         room,

@@ -53,11 +53,7 @@ fn base_sheet(rng: &mut Rng, edition: Edition, draft: &Draft) -> Vec<u8> {
     let proof = read_proof(edition, &draft.sheet(edition), &draft.rule_table(edition));
     match (rng.below(10), proof) {
         (0..=5, Ok(proof)) => {
-            let plan = Plan {
-                edition,
-                ..Plan::PROGRAM
-            };
-            let records = run_passes(plan, proof).records;
+            let records = run_passes(Plan::program_in(edition), proof).records;
             records.iter().flat_map(|r| r.write(edition)).collect()
         }
         (6, _) => draft.sheet(edition),

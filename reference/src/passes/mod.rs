@@ -1,7 +1,8 @@
 //! The six passes of "How a sheet is pressed", one file each (steps 1 and 4
-//! are the same pass).
+//! are the same pass), and the one that may come after step 4.
 
 pub mod drops;
+pub mod lower;
 pub mod order;
 pub mod rebuild;
 pub mod recycle;

@@ -1,7 +1,10 @@
 use crate::clause::{resolve, Literal};
-use crate::passes::recycle::{Edge, Visits};
+use crate::passes::recycle::Edge;
 use crate::proof::{Node, Proof};
 use std::collections::BTreeMap;
+
+/// The nodes to rebuild, and of each step that is cut the edge.
+pub type Cuts = BTreeMap<usize, Option<Edge>>;
 
 /// Why a step got the stand-in it has.
 #[derive(Clone, Copy, Debug, PartialEq, Eq)]
@@ -21,15 +24,15 @@ pub struct Rebuilt {
 
 /// "Rebuild, rising numbers, reached nodes only. A given node stands for
 /// itself. A cut step is replaced by its kept parent's stand-in."
-pub fn rebuild(trimmed: &Proof, visits: &Visits) -> Rebuilt {
+pub fn rebuild(proof: &Proof, cuts: &Cuts) -> Rebuilt {
     let mut rebuilt = Rebuilt {
         nodes: BTreeMap::new(),
         stand_ins: BTreeMap::new(),
         why: BTreeMap::new(),
     };
-    for (&number, visit) in visits {
-        let node = &trimmed.nodes[&number];
-        let (stand_in, why) = match (node, visit.cut) {
+    for (&number, &cut) in cuts {
+        let node = &proof.nodes[&number];
+        let (stand_in, why) = match (node, cut) {
             (Node::Given { .. }, _) => {
                 rebuilt.nodes.insert(number, node.clone());
                 (number, Why::Given)

@@ -1,4 +1,5 @@
 use crate::clause::{Clause, Literal};
+use crate::passes::rebuild::Cuts;
 use crate::plan::Recycling;
 use crate::proof::{Node, Proof};
 use std::collections::BTreeMap;
@@ -70,6 +71,11 @@ fn cut(node: &Node, s: &Clause) -> Option<Edge> {
         Node::Step { pivot, .. } if s.holds(Literal::Plus(pivot)) => Some(Edge::Right),
         _ => None,
     }
+}
+
+/// What the rebuild is told: "reached nodes only", and their cuts.
+pub fn cuts(visits: &Visits) -> Cuts {
+    visits.iter().map(|(&n, visit)| (n, visit.cut)).collect()
 }
 
 /// "the left edge is cut and the right parent gets S; [...] the right edge is

@@ -1,10 +1,12 @@
 //! Sheets written by hand, each once: clauses and records in short words, the
 //! sheets of document 01 (`starred`), sheets for sentences that those do not
 //! tell apart (`telling`), sheets that tell the recyclings from each other and
-//! from wrong ones (`recycling`), and sheets of the wide edition (`wide`). The
-//! tests, the streams of cases, the tables of the definitions (`tables`), the
-//! tests of the built program and the harness all take them from here.
+//! from wrong ones (`recycling`), sheets that tell lowering from wrong ones
+//! (`lowering`), and sheets of the wide edition (`wide`). The tests, the streams
+//! of cases, the tables of the definitions (`tables`), the tests of the built
+//! program and the harness all take them from here.
 
+pub mod lowering;
 pub mod recycling;
 pub mod starred;
 pub mod telling;
@@ -13,7 +15,7 @@ pub mod wide;
 use crate::cases::stages::{stages, Givens};
 use crate::clause::{Clause, Literal};
 use crate::edition::Edition;
-use crate::plan::{Plan, Recycling};
+use crate::plan::{Lowering, Plan, Recycling};
 use crate::press::{read_proof, run_passes};
 use crate::proof::Node;
 use crate::record::Record;
@@ -99,15 +101,18 @@ impl Worked {
         (self.sheet(), self.table())
     }
 
-    pub fn plan(&self, recycling: Recycling) -> Plan {
-        let edition = self.edition;
-        Plan { edition, recycling }
+    pub fn plan(&self, recycling: Recycling, lowering: Lowering) -> Plan {
+        Plan {
+            edition: self.edition,
+            recycling,
+            lowering,
+        }
     }
 
     /// What the press writes, if the sheet is good.
-    pub fn pressed(&self, recycling: Recycling) -> Option<Vec<Record>> {
+    pub fn pressed(&self, recycling: Recycling, lowering: Lowering) -> Option<Vec<Record>> {
         let proof = read_proof(self.edition, &self.sheet(), &self.table()).ok()?;
-        Some(run_passes(self.plan(recycling), proof).records)
+        Some(run_passes(self.plan(recycling, lowering), proof).records)
     }
 }
 

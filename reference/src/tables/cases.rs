@@ -2,7 +2,7 @@
 
 use super::terms::{bytes_term, edition, list, set};
 use crate::edition::Edition;
-use crate::plan::Recycling;
+use crate::plan::{Lowering, Recycling};
 use crate::press::press;
 use crate::record::Record;
 use crate::refusal::Refusal;
@@ -11,50 +11,54 @@ use crate::sheets::{sheet, Worked};
 
 const OLD: u8 = 170;
 
-/// The recyclings that a case is of: either, which is the table's parameter, or
-/// one by name.
+/// The passes that a case is of: either recycling, which is the table's
+/// parameter, and nothing lowered; or a recycling and a lowering by name.
 #[derive(Clone, Copy)]
 pub(super) enum How {
     Either,
-    By(Recycling),
+    By(Recycling, Lowering),
 }
 
 use How::{By, Either};
 
 impl How {
     /// What this program makes of it, which is the same for each of them.
-    fn made<T: PartialEq>(self, make: impl Fn(Recycling) -> T) -> T {
-        let recyclings = match self {
-            Either => Recycling::ALL.to_vec(),
-            By(one) => vec![one],
+    fn made<T: PartialEq>(self, make: impl Fn(Recycling, Lowering) -> T) -> T {
+        let (recyclings, lowering) = match self {
+            Either => (Recycling::ALL.to_vec(), Lowering::Nothing),
+            By(recycling, lowering) => (vec![recycling], lowering),
         };
-        let mut made = recyclings.into_iter().map(make);
+        let mut made = recyclings.into_iter().map(|of| make(of, lowering));
         let first = made.next().expect("there is a recycling");
         assert!(made.all(|other| other == first), "the recyclings part here");
         first
     }
 
     fn plan(self, worked: &Worked) -> String {
-        let how = match self {
-            Either => "how",
-            By(Recycling::Reset) => "Reset",
-            By(Recycling::Intersection) => "Intersection",
+        let passes = match self {
+            Either => "how Nothing",
+            By(Recycling::Reset, Lowering::Nothing) => "Reset Nothing",
+            By(Recycling::Intersection, Lowering::Nothing) => "Intersection Nothing",
+            By(Recycling::Reset, Lowering::Units) => "Reset Units",
+            By(Recycling::Intersection, Lowering::Units) => "Intersection Units",
         };
-        format!("(plan {} {how})", edition(worked.edition))
+        format!("(plan {} {passes})", edition(worked.edition))
     }
 
     /// The name of what the press writes of a sheet.
     pub(super) fn pressed_name(self, worked: &Worked) -> String {
-        let how = match self {
+        let passes = match self {
             Either => "Pressed",
-            By(Recycling::Reset) => "Reset",
-            By(Recycling::Intersection) => "Intersected",
+            By(Recycling::Reset, Lowering::Nothing) => "Reset",
+            By(Recycling::Intersection, Lowering::Nothing) => "Intersected",
+            By(Recycling::Reset, Lowering::Units) => "ResetLowered",
+            By(Recycling::Intersection, Lowering::Units) => "Lowered",
         };
-        format!("{}{how}", worked.name)
+        format!("{}{passes}", worked.name)
     }
 
     pub(super) fn pressed(self, worked: &Worked) -> Option<Vec<Record>> {
-        self.made(|recycling| worked.pressed(recycling))
+        self.made(|recycling, lowering| worked.pressed(recycling, lowering))
     }
 }
 
@@ -66,9 +70,9 @@ fn pressing(
     marks: usize,
 ) -> (Result<Vec<String>, Refusal>, Vec<u8>) {
     let (sheet, rules) = worked.bytes();
-    how.made(|recycling| {
+    how.made(|recycling, lowering| {
         let (mut out, mut marks) = (vec![OLD; room], vec![OLD; marks]);
-        let plan = worked.plan(recycling);
+        let plan = worked.plan(recycling, lowering);
         let said = press(plan, &sheet, &rules, &mut out, &mut marks).map(|p| {
             let counts = [p.records, p.nodes, p.steps, p.peak, p.marked];
             said(p.positive, p.negative, &counts)

@@ -6,7 +6,9 @@ mod cases;
 mod terms;
 
 use crate::edition::Edition::Wide;
-use crate::plan::Recycling;
+use crate::plan::Lowering::{Nothing, Units};
+use crate::plan::Recycling::{self, Intersection, Reset};
+use crate::sheets::lowering::*;
 use crate::sheets::recycling::*;
 use crate::sheets::starred::*;
 use crate::sheets::telling::*;
@@ -26,6 +28,7 @@ use Rattle.sheet.specs.declared.edition.Edition.the-variants.{Narrow}
 use Rattle.sheet.specs.Records.{given, step, Record, node, drop}
 use Rattle.sheet.specs.Fields.{sheetBytes}
 use Rattle.press_spec.specs.declared.Recycling.{Recycling}
+use Rattle.press_spec.specs.declared.Lowering.the-variants.{Nothing}
 use Rattle.press_spec.specs.Plans.{plan}
 use Rattle.demands.specs.Cases.{Case, accepts, refuses, replayed, allRight}
 "#;
@@ -39,6 +42,7 @@ use Rattle.sheet.specs.declared.edition.Edition.the-variants.{Narrow}
 use Rattle.sheet.specs.Records.{given, step, Record, node, drop}
 use Rattle.sheet.specs.Fields.{sheetBytes}
 use Rattle.press_spec.specs.declared.Recycling.{Recycling}
+use Rattle.press_spec.specs.declared.Lowering.the-variants.{Nothing}
 use Rattle.press_spec.specs.Plans.{plan}
 use Rattle.demands.specs.Cases.{Case, presses, replays, accepts, refuses, replayed, ruleTable, junk, dirty, allRight}
 use Rattle.demands.specs.Starred.{pairRules, pair, irregularRules, irregular}
@@ -53,6 +57,7 @@ use Rattle.sheet.specs.declared.edition.Edition.the-variants.{Narrow, Wide}
 use Rattle.sheet.specs.Records.{given, step, Record, node, drop}
 use Rattle.sheet.specs.Fields.{sheetBytes}
 use Rattle.press_spec.specs.declared.Recycling.{Recycling}
+use Rattle.press_spec.specs.declared.Lowering.the-variants.{Nothing}
 use Rattle.press_spec.specs.Plans.{plan}
 use Rattle.demands.specs.Cases.{Case, presses, replays, accepts, refuses, replayed, ruleTable, junk, clean, allRight}
 use Rattle.demands.specs.Starred.{loneRules, lone, lonePressed}
@@ -67,6 +72,21 @@ use Rattle.sheet.specs.declared.edition.Edition.the-variants.{Narrow}
 use Rattle.sheet.specs.Records.{given, step, Record, node, drop}
 use Rattle.sheet.specs.Fields.{sheetBytes}
 use Rattle.press_spec.specs.declared.Recycling.the-variants.{Reset, Intersection}
+use Rattle.press_spec.specs.declared.Lowering.the-variants.{Nothing}
+use Rattle.press_spec.specs.Plans.{plan}
+use Rattle.demands.specs.Cases.{Case, accepts, allRight}
+"#;
+
+const LOWERINGS: &str = r#"-- Sheets that tell lowering the units from passes that look like it. Made by the second program: `reference tables`.
+use Prim.Native.Nat.{_+_, _^_}
+use mathlib.Core.List.{List, [], _∷_}
+use lib.Dec.{T}
+use Rattle.clause.specs.Clauses.{Literals, literals}
+use Rattle.sheet.specs.declared.edition.Edition.the-variants.{Narrow, Wide}
+use Rattle.sheet.specs.Records.{given, step, Record, node, drop}
+use Rattle.sheet.specs.Fields.{sheetBytes}
+use Rattle.press_spec.specs.declared.Recycling.the-variants.{Reset, Intersection}
+use Rattle.press_spec.specs.declared.Lowering.the-variants.{Units}
 use Rattle.press_spec.specs.Plans.{plan}
 use Rattle.demands.specs.Cases.{Case, accepts, allRight}
 "#;
@@ -225,7 +245,7 @@ fn telling_cases() -> Vec<String> {
         replays(&either_way(), "eitherWayRules", 7),
         presses(&pair(), "pairRules", 119, 2),
         presses(&pair(), "pairRules", 120, 1),
-        "presses (plan Narrow how) [] (ruleTable Narrow pairRules) 0 0 (2 ∷ 0 ∷ []) [] []"
+        "presses (plan Narrow how Nothing) [] (ruleTable Narrow pairRules) 0 0 (2 ∷ 0 ∷ []) [] []"
             .to_string(),
         "replays Narrow (1 ∷ []) (1 ∷ []) 2 (1 ∷ 0 ∷ []) (dirty 2)".to_string(),
     ]);
@@ -321,14 +341,20 @@ fn wide_cases() -> Vec<String> {
 }
 
 pub fn recyclings() -> String {
-    let ways = Recycling::ALL.map(By);
-    let mut page = RECYCLINGS.to_string();
+    let ways = Recycling::ALL.map(|of| By(of, Nothing));
+    let told = parting().map(|told| (told, ways.to_vec()));
+    named(RECYCLINGS, "recyclings", "Recyclings", &told)
+}
+
+/// A table of sheets, each of which is pressed in ways that are named.
+fn named(head: &str, name: &str, statement: &str, sheets: &[(Told, Vec<How>)]) -> String {
+    let mut page = head.to_string();
     let mut cases = vec![];
-    for told in &parting() {
-        page += &told_of(told, &ways);
-        cases.extend(ways.map(|how| accepts(how, &told.1)));
+    for (told, ways) in sheets {
+        page += &told_of(told, ways);
+        cases.extend(ways.iter().map(|&how| accepts(how, &told.1)));
     }
-    page + &table("recyclings", "Recyclings", &cases)
+    page + &table(name, statement, &cases)
 }
 
 /// Sheets that the recyclings press apart.
@@ -354,6 +380,56 @@ fn parting() -> [Told; 6] {
         (
             "by the reset, after the rebuild a step names one node twice, though no step did before",
             twice_after(),
+        ),
+    ]
+}
+
+pub fn lowerings() -> String {
+    let by = |recycling, told: Told| (told, vec![By(recycling, Units)]);
+    let no_unit = (
+        "by the reset, a node that one step names twice holds two literals, and is no unit",
+        twice_again(),
+    );
+    let told = lowered().into_iter().map(|told| by(Intersection, told));
+    let told: Vec<_> = told.chain([by(Reset, no_unit)]).collect();
+    named(LOWERINGS, "lowerings", "Lowerings", &told)
+}
+
+/// Sheets that tell lowering the units from passes that look like it.
+fn lowered() -> Vec<Told> {
+    vec![
+        (
+            "two units, each used twice, come back in the order of their collection, {-1} on the right and {+0} on the left",
+            everywhere(),
+        ),
+        (
+            "a unit whose own derivation uses another one. With the old unit there would be a step more, and in another order -1 would be left",
+            within(),
+        ),
+        (
+            "of two opposite units only the first is collected",
+            opposites(),
+        ),
+        (
+            "the same literal is collected twice, and comes back twice",
+            again(),
+        ),
+        (
+            "the conclusion lacks the opposite of the second unit, and stays",
+            stays(),
+        ),
+        ("units with one use stay where they are", once()),
+        (
+            "a unit with one use in the sheet, and two after step 4",
+            merged(),
+        ),
+        (
+            "a unit with two uses in the sheet, and one after step 4",
+            fewer(),
+        ),
+        (
+            "variables at one place of the halves, and units on them that are no opposites",
+            high_everywhere(),
         ),
     ]
 }

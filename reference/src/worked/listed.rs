@@ -49,8 +49,6 @@ pub fn pivot_and_forward(edition: Edition) -> Vec<Entry> {
 pub fn limits(edition: Edition) -> Vec<Entry> {
     let (pair_sheet, pair_rules) = pair().in_edition(edition).bytes();
     let table = rules(edition, &["+0"]);
-    let givens = |count: usize| sheet(edition, &vec![given(0, "+0"); count]);
-    // what is refused by its length needs no records
     let zeros = |count: usize| vec![0; count * edition.record_bytes()];
     let lines = |count: usize| {
         let idle = vec![0; (count - 2) * edition.line_bytes()];
@@ -61,11 +59,15 @@ pub fn limits(edition: Edition) -> Vec<Entry> {
     let ample = edition.room(most) + 60;
     let press_in =
         |sheet: &[u8], rules: &[u8], room, marks| press_in(edition, sheet, rules, room, marks);
+    // good records would be long: that a record answers shows that 3 doesn't
+    let full = match edition {
+        Edition::Narrow => sheet(edition, &vec![given(0, "+0"); most]),
+        Edition::Wide => zeros(most),
+    };
     vec![
         // as many as may be are not refused by 3, one more is, with a table
-        // that is 4; so for the replay, of which good records would be long:
-        // that a record answers shows that 3 doesn't
-        press(edition, &givens(most), &table),
+        // that is 4; so for the replay
+        press(edition, &full, &table),
         press_in(&zeros(most + 1), &table[1..], ample, 8),
         long_replay(edition, &zeros(longest), &table, longest),
         long_replay(edition, &zeros(longest + 1), &table[1..], longest + 1),

@@ -8,7 +8,7 @@ mod wide;
 
 use crate::cases::Case;
 use crate::edition::Edition;
-use crate::plan::{Plan, Recycling};
+use crate::plan::{Lowering, Plan, Recycling};
 use crate::sheets::starred::pair;
 use crate::sheets::{sheet, Worked};
 use crate::stream::Entry;
@@ -54,6 +54,7 @@ fn of_both(edition: Edition) -> Vec<Entry> {
         passes::orders(edition),
         passes::cuts(edition),
         passes::recyclings(edition),
+        passes::lowerings(edition),
     ]
     .concat()
 }
@@ -64,9 +65,13 @@ fn press_sheet(worked: &Worked) -> Entry {
 
 /// A press by each recycling.
 fn press_by_each(worked: &Worked) -> Vec<Entry> {
-    let (sheet, rules) = worked.bytes();
-    let by = |recycling| press_by(worked.plan(recycling), &sheet, &rules);
+    let by = |recycling| press_lowering(worked, recycling, Plan::PROGRAM.lowering);
     Recycling::ALL.map(by).to_vec()
+}
+
+fn press_lowering(worked: &Worked, recycling: Recycling, lowering: Lowering) -> Entry {
+    let plan = worked.plan(recycling, lowering);
+    press_by(plan, &worked.sheet(), &worked.table())
 }
 
 fn replay_sheet(worked: &Worked, slots: usize) -> Entry {
@@ -78,15 +83,8 @@ fn both_of(worked: &Worked, slots: usize) -> Vec<Entry> {
 }
 
 /// What is pressed once is pressed by the program's passes.
-fn plan(edition: Edition) -> Plan {
-    Plan {
-        edition,
-        ..Plan::PROGRAM
-    }
-}
-
 fn press(edition: Edition, sheet: &[u8], rules: &[u8]) -> Entry {
-    press_by(plan(edition), sheet, rules)
+    press_by(Plan::program_in(edition), sheet, rules)
 }
 
 /// A press with room and marks to spare.
@@ -99,7 +97,7 @@ fn press_by(plan: Plan, sheet: &[u8], rules: &[u8]) -> Entry {
 }
 
 fn press_in(edition: Edition, sheet: &[u8], rules: &[u8], room: usize, marks: usize) -> Entry {
-    press_lent(plan(edition), sheet, rules, room, marks)
+    press_lent(Plan::program_in(edition), sheet, rules, room, marks)
 }
 
 fn press_lent(plan: Plan, sheet: &[u8], rules: &[u8], room: usize, marks: usize) -> Entry {
@@ -147,12 +145,13 @@ fn both(edition: Edition, sheet: &[u8], rules: &[u8], slots: usize) -> Vec<Entry
 
 /// What the press makes of a good sheet.
 fn pressed(worked: &Worked) -> Vec<u8> {
-    sheet(
-        worked.edition,
-        &worked
-            .pressed(Plan::PROGRAM.recycling)
-            .expect("the sheet is good"),
-    )
+    let Plan {
+        recycling,
+        lowering,
+        ..
+    } = Plan::PROGRAM;
+    let records = worked.pressed(recycling, lowering);
+    sheet(worked.edition, &records.expect("the sheet is good"))
 }
 
 /// *pair* with some of its bytes changed: record, place, byte.

@@ -1,7 +1,9 @@
 //! "Slips that look right", and what the passes can come to.
 
-use super::{press_by_each, press_sheet};
+use super::{press_by_each, press_lowering, press_sheet};
 use crate::edition::Edition;
+use crate::plan::{Lowering, Recycling};
+use crate::sheets::lowering::*;
 use crate::sheets::recycling::*;
 use crate::sheets::telling::*;
 use crate::sheets::Worked;
@@ -54,4 +56,32 @@ pub fn recyclings(edition: Edition) -> Vec<Entry> {
     ];
     let press = |worked: Worked| press_by_each(&worked.in_edition(edition));
     sheets.into_iter().flat_map(press).collect()
+}
+
+/// "Lower the units." In the wide edition only what is about its variables.
+pub fn lowerings(edition: Edition) -> Vec<Entry> {
+    let press = |recycling: Recycling, worked: Worked| {
+        press_lowering(&worked.in_edition(edition), recycling, Lowering::Units)
+    };
+    let by_reset = |worked| press(Recycling::Reset, worked);
+    let by = |worked| press(Recycling::Intersection, worked);
+    match edition {
+        Edition::Narrow => {
+            let reset = [needless(), sharper(), twice_again()];
+            let sheets = [
+                everywhere(),
+                within(),
+                opposites(),
+                again(),
+                stays(),
+                once(),
+                merged(),
+                fewer(),
+                third_trim(),
+            ];
+            let reset = reset.into_iter().map(by_reset);
+            reset.chain(sheets.into_iter().map(by)).collect()
+        }
+        Edition::Wide => [high_everywhere(), one_in_each_half()].map(by).to_vec(),
+    }
 }

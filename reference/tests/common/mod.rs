@@ -1,14 +1,18 @@
 //! Calls with memory that shows what was touched. What does not name an edition
-//! is of the narrow one, and what does not name a recycling is of both.
+//! is of the narrow one, what does not name a recycling is of both, and what does
+//! not name a lowering is of none.
 #![allow(dead_code, unused_imports)] // each test file uses its own part of this module
 
+use reference::cases::draft::Draft;
 pub use reference::edition::Edition::{self, Narrow, Wide};
+pub use reference::plan::Lowering::{self, Nothing, Units};
 pub use reference::plan::Plan;
 pub use reference::plan::Recycling::{self, Intersection, Reset};
 use reference::press::{press, read_proof, run_passes, Passes, Pressed};
 use reference::record::Record;
 use reference::refusal::Refusal;
 use reference::replay::{replay_watched, Replayed, Slot, Tally};
+use reference::rng::Rng;
 pub use reference::sheets::starred::*;
 pub use reference::sheets::telling::*;
 pub use reference::sheets::*;
@@ -22,8 +26,36 @@ pub fn rules(lines: &[&str]) -> Vec<u8> {
 }
 
 pub fn passes_by(recycling: Recycling, worked: &Worked) -> Passes {
+    passes_lowering(recycling, Nothing, worked)
+}
+
+pub fn passes_lowering(recycling: Recycling, lowering: Lowering, worked: &Worked) -> Passes {
     let proof = read_proof(worked.edition, &worked.sheet(), &worked.table());
-    run_passes(worked.plan(recycling), proof.unwrap())
+    run_passes(worked.plan(recycling, lowering), proof.unwrap())
+}
+
+/// The presses of random proofs of a shape, as far as they are good: now and then a
+/// rule line holds a variable both ways, which is 17.
+pub fn random_passes(
+    seed: u64,
+    count: u64,
+    recycling: Recycling,
+    lowering: Lowering,
+    shape: fn(&mut Rng, Edition, usize) -> Draft,
+) -> impl Iterator<Item = Passes> {
+    (0..count).filter_map(move |index| {
+        let mut rng = Rng::new(seed, index);
+        let edition = rng.pick(&Edition::ALL);
+        let size = rng.between(2, 60);
+        let draft = shape(&mut rng, edition, size);
+        let proof = read_proof(edition, &draft.sheet(edition), &draft.rule_table(edition));
+        let plan = Plan {
+            edition,
+            recycling,
+            lowering,
+        };
+        Some(run_passes(plan, proof.ok()?))
+    })
 }
 
 /// What lent memory holds before a call.
@@ -42,14 +74,26 @@ pub fn press_ok(sheet: &[u8], rules: &[u8]) -> Done {
 
 /// An accepted press that both recyclings make alike.
 pub fn press_ok_in(edition: Edition, sheet: &[u8], rules: &[u8]) -> Done {
-    let by = |recycling| press_ok_by(Plan { edition, recycling }, sheet, rules);
+    let by = |recycling| {
+        let plan = Plan {
+            edition,
+            recycling,
+            lowering: Nothing,
+        };
+        press_ok_by(plan, sheet, rules)
+    };
     let [reset, intersection] = Recycling::ALL.map(by);
     assert_eq!(reset, intersection);
     intersection
 }
 
 pub fn press_worked(recycling: Recycling, worked: &Worked) -> Done {
-    press_ok_by(worked.plan(recycling), &worked.sheet(), &worked.table())
+    press_lowering(recycling, Nothing, worked)
+}
+
+pub fn press_lowering(recycling: Recycling, lowering: Lowering, worked: &Worked) -> Done {
+    let plan = worked.plan(recycling, lowering);
+    press_ok_by(plan, &worked.sheet(), &worked.table())
 }
 
 /// An accepted press. Checks on the way that marks are 0 or 1 and that output
@@ -83,7 +127,8 @@ pub fn press_refused_with(sheet: &[u8], rules: &[u8], room: usize, marks: usize)
     press_refused_in(Narrow, sheet, rules, Some((room, marks)))
 }
 
-/// With this room and these marks, or with ample ones.
+/// With this room and these marks, or with ample ones. Every choice of passes
+/// answers alike.
 pub fn press_refused_in(
     edition: Edition,
     sheet: &[u8],
@@ -91,15 +136,15 @@ pub fn press_refused_in(
     lent: Option<(usize, usize)>,
 ) -> (u32, usize) {
     let (room, marks) = lent.unwrap_or((2 * sheet.len() + 48, 2000));
-    let [reset, intersection] = Recycling::ALL.map(|recycling| {
+    let by = |plan: &Plan| {
         let (mut out, mut marks) = (vec![OLD; room], vec![OLD; marks]);
-        let plan = Plan { edition, recycling };
-        let refusal = press(plan, sheet, rules, &mut out, &mut marks).unwrap_err();
+        let refusal = press(*plan, sheet, rules, &mut out, &mut marks).unwrap_err();
         assert!(out.iter().chain(&marks).all(|&byte| byte == OLD));
         (refusal.number, refusal.record)
-    });
-    assert_eq!(reset, intersection);
-    intersection
+    };
+    let refused: Vec<_> = Plan::all(edition).iter().map(by).collect();
+    assert!(refused.iter().all(|other| *other == refused[0]));
+    refused[0]
 }
 
 /// A slot as no call may leave it.
