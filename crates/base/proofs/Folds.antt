@@ -45,3 +45,9 @@ fall-by P f (suc n) s k h = fall-by P f n (f n s) (λ i t l. k i t (omega arith)
 pub fall-keeps : {S : Type 0} (P : S → Type 0) (f : ℕ → S → S)
     → ((i : ℕ) (t : S) → P t → P (f i t)) → (n : ℕ) (s : S) → P s → P (fall f n s)
 fall-keeps P f k n s h = fall-by (λ i. P) f n s (λ i t l. k i t) h
+
+-- the same turns come to the same
+pub fall-same : {S : Type 0} (f g : ℕ → S → S) (n : ℕ) (s : S) → ((i : ℕ) (t : S) → i < n → f i t ≡ g i t) → fall f n s ≡ fall g n s
+unfolding fall
+fall-same f g zero s e = refl
+fall-same f g (suc n) s e = fall-same f g n (f n s) (λ i t h. e i t (omega arith)) ∙ ap (fall g n) (e n s (omega arith))

@@ -5,7 +5,7 @@ use mathlib.Core.List.{List, [], _∷_, _++_, append-nil, map}
 use Prim.Native.Nat.{ℕ, zero, suc, _+_, _≤_, _<_}
 use native.Mathlib.Numerals.{add-one}
 use native.Mathlib.Omega.{arith}
-use lib.ListN.{length, getD, set, drop, replicate}
+use lib.ListN.{length, getD, set, take, drop, replicate}
 use lib.Seq.{drop-length, drop-cons}
 
 pub cond-both : {A : Type 0} (P : A → Type 0) (b : Bool) (x y : A) → P x → P y → P (cond b x y)
@@ -45,3 +45,8 @@ pub map-set : {A B : Type 0} (f : A → B) (a : List A) (i : ℕ) (x : A) → ma
 map-set f [] i x = refl
 map-set f (y ∷ a) zero x = refl
 map-set f (y ∷ a) (suc i) x = ap (λ (l : List _). f y ∷ l) (map-set f a i x)
+
+pub map-take : {A B : Type 0} (f : A → B) (a : List A) (k : ℕ) → map f (take k a) ≡ take k (map f a)
+map-take f a zero = refl
+map-take f [] (suc k) = refl
+map-take f (y ∷ a) (suc k) = ap (λ (l : List _). f y ∷ l) (map-take f a k)

@@ -13,10 +13,10 @@ use Rattle.sheet.specs.Records.{Node, given, step, clause, nodeAt}
 use Rattle.press_spec.specs.Links.{Link, leaf, join, link, links, linkAt}
 use Rattle.press_spec.specs.Recycle.{Cut, cutLeft, cutRight, uncut, Fate, kept}
 use Rattle.press_spec.specs.Rebuild.{Built, standIn, standing, takeLeft, takeRight, stepAnew, wayOf}
-use Rattle.press_spec.proofs.Proper.{ProperNode, AllProper}
+use Rattle.press_spec.proofs.Proper.{ProperNode}
 use Rattle.press_spec.proofs.Nodes.{link-at, by-rising}
 use Rattle.press_spec.proofs.Literals.{literal-same, in-adding, adding-keeps, in-resolvent, resolvent-left, resolvent-right}
-use Rattle.press_spec.proofs.Rebuilt.{ByWay, Renewed, Rebuilding, EdgesKept, ParentsKept, Closed}
+use Rattle.press_spec.proofs.Rebuilt.{ByWay, Renewed, Rebuilding, EdgesKept, ParentsKept, Closed, ProperKept}
 
 -- ---- what the sets and the cuts of a pass have to do with each other, however they were found
 
@@ -78,7 +78,7 @@ module _ (p : ℕ) (l r S R : Literals) (x : Literal) where
 
 -- ---- by rising numbers
 
-module _ (e : Edition) (rules : List ℕ) (s : List Node) (proper : AllProper e rules s) (says : ℕ → Fate) (S : ℕ → Literals)
+module _ (e : Edition) (rules : List ℕ) (s : List Node) (says : ℕ → Fate) (proper : ProperKept e rules s says) (S : ℕ → Literals)
     (allowed : Allowed says S (links s)) (b : Built) (f : Rebuilding s says (length s) b) where
   -- a clause that may stand for node n
   abbrev Fits : ℕ → Literals → Type 0
@@ -87,7 +87,7 @@ module _ (e : Edition) (rules : List ℕ) (s : List Node) (proper : AllProper e 
   abbrev FitsAt : ℕ → Type 0
   FitsAt n = (z : Cut) → n < length s → says n ≡ kept z → Fits n (standing b n)
 
-  module _ (n : ℕ) (inside : n < length s) (below : (m : ℕ) → m < n → FitsAt m) where
+  module _ (n : ℕ) (inside : n < length s) (here : ProperNode e rules s n (nodeAt s n)) (below : (m : ℕ) → m < n → FitsAt m) where
     takes : (m : ℕ) → standIn b n ≡ standIn b m → Fits n (standing b m) → Fits n (standing b n)
     unfolding standing
     takes m q g = rw q g
@@ -100,7 +100,7 @@ module _ (e : Edition) (rules : List ℕ) (s : List Node) (proper : AllProper e 
       B = clause (nodeAt s r)
 
       old : ProperNode e rules s n (step p l r c)
-      old = rw a at (proper n inside)
+      old = rw a at here
 
       result : clause (nodeAt s n) ≡ resolvent p A B
       unfolding clause
@@ -144,4 +144,4 @@ module _ (e : Edition) (rules : List ℕ) (s : List Node) (proper : AllProper e 
   -- every literal of a kept node's stand-in is one of the old clause or of the node's set
   pub standing-within : (n : ℕ) (z : Cut) → n < length s → says n ≡ kept z → (x : Literal) → holds x (standing b n) ≡ true
       → (holds x (clause (nodeAt s n)) ≡ true) ⊎ (holds x (S n) ≡ true)
-  standing-within n z h q = by-rising FitsAt (λ i g y k p. fits-next i k g y p) n z h q
+  standing-within n z h q = by-rising FitsAt (λ i g y k p. fits-next i k (proper i y k p) g y p) n z h q

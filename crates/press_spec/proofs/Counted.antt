@@ -28,10 +28,10 @@ unfolding sumBelow
 sumBelow-le f g zero h = omega arith
 sumBelow-le f g (suc k) h = omega (arith, h k (omega arith), sumBelow-le f g k (λ n i. h n (omega arith)))
 
-pub sumBelow-none : (k : ℕ) → sumBelow (λ n. 0) k ≡ 0
+pub sumBelow-none : (f : ℕ → ℕ) (k : ℕ) → ((n : ℕ) → n < k → f n ≡ 0) → sumBelow f k ≡ 0
 unfolding sumBelow
-sumBelow-none zero = refl
-sumBelow-none (suc k) = omega (arith, sumBelow-none k)
+sumBelow-none f zero h = refl
+sumBelow-none f (suc k) h = omega (arith, h k (omega arith), sumBelow-none f k (λ n i. h n (omega arith)))
 
 pub sumBelow-ones : (k : ℕ) → sumBelow (λ n. 1) k ≡ k
 unfolding sumBelow
@@ -43,12 +43,12 @@ unfolding sumBelow
 sumBelow-add f g zero = refl
 sumBelow-add f g (suc k) = omega (arith, sumBelow-add f g k)
 
-sumOver-ones : (order : List ℕ) → sumOver (λ n. 1) order ≡ length order
+pub sumOver-ones : (order : List ℕ) → sumOver (λ n. 1) order ≡ length order
 unfolding sumOver
 sumOver-ones [] = refl
 sumOver-ones (n ∷ order) = omega (arith, sumOver-ones order)
 
-sumBelow-first : (f : ℕ → ℕ) (k : ℕ) → sumBelow f (suc k) ≡ f 0 + sumBelow (λ n. f (suc n)) k
+pub sumBelow-first : (f : ℕ → ℕ) (k : ℕ) → sumBelow f (suc k) ≡ f 0 + sumBelow (λ n. f (suc n)) k
 unfolding sumBelow
 sumBelow-first f zero = refl
 sumBelow-first f (suc k) = omega (arith, sumBelow-first f k)
@@ -61,7 +61,7 @@ steps-below (x ∷ s) = sumBelow-first (λ n. stepOf (nodeAt (x ∷ s) n)) (leng
 -- ---- the numbers below k that are placed
 
 module _ (f : ℕ → ℕ) where
-  sumPlaced : List ℕ → ℕ → ℕ
+  unfoldable pub sumPlaced : List ℕ → ℕ → ℕ
   sumPlaced order zero = 0
   sumPlaced order (suc k) = cond (placed k order) (f k) 0 + sumPlaced order k
 
@@ -93,7 +93,7 @@ module _ (f : ℕ → ℕ) where
   ]
 
   module _ (s : List Link) (Q : ℕ → Type 0) (k : ℕ) (small : (n : ℕ) → Q n → n < k) where
-    sum-order : (order : List ℕ) → InOrder s Q order → sumPlaced order k ≡ sumOver f order
+    pub sum-order : (order : List ℕ) → InOrder s Q order → sumPlaced order k ≡ sumOver f order
     unfolding sumOver
     sum-order [] o = sum-nothing k
     sum-order (n ∷ order) o = omega (arith, sum-new n order k (small n (o .0)) (o .1), sum-order order (o .3))

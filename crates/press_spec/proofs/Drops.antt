@@ -211,7 +211,7 @@ naming-once i (suc k) h = elim (ℕ-discrete k i) [
 -- a record for each node, and a drop for each number that is dropped
 length-counted : (k : ℕ) (rs : List Record) → ((j : ℕ) → 1 ≤ dropped j rs → j < k) → length rs ≡ length (nodesOf rs) + sumBelow (λ j. dropped j rs) k
 unfolding nodesOf dropped naming
-length-counted k [] f = omega (arith, sumBelow-none k)
+length-counted k [] f = omega (arith, sumBelow-none (λ n. 0) k (λ n h. refl))
 length-counted k (node x ∷ rs) f = omega (arith, length-counted k rs f)
 length-counted k (drop i ∷ rs) f =
     omega (

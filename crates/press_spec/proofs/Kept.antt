@@ -1,5 +1,6 @@
--- What every press keeps, for any cuts that are Allowed and any order that ends with the sink; and the press of the scope document as one of these.
-use Prim.Native.Nat.{ℕ, _≤_, _<_, pred}
+-- What every press keeps: step 4 leaves an `Ending`, by any cuts that are Allowed, and so does each pass of lowering. And the press of the scope document as
+-- one of these.
+use Prim.Native.Nat.{ℕ, suc, _*_, _≤_, _<_, pred}
 use mathlib.Core.Path.{_≡_, refl, ap}
 use mathlib.Core.Bool.{true}
 use mathlib.Core.Logic.{_⊎_, inl, inr}
@@ -8,28 +9,40 @@ use native.Mathlib.Omega.{arith}
 use lib.ListN.{length, getD, length-map}
 use Rattle.clause.specs.Clauses.{Literal, Literals, none, holds, Within}
 use Rattle.sheet.specs.declared.edition.Edition.{Edition}
+use Rattle.sheet.specs.Editions.{variables}
 use Rattle.sheet.specs.Records.{Node, clause, nodeAt}
+use Rattle.sheet.specs.Counts.{stepsOf}
+use Rattle.press_spec.specs.declared.Recycling.{Recycling}
+use Rattle.press_spec.specs.declared.Lowering.{Lowering}
+use Rattle.press_spec.specs.declared.Lowering.the-variants.{Nothing, Units}
 use Rattle.press_spec.specs.declared.Plan.{Plan}
-use Rattle.press_spec.specs.Links.{link, links, sink, Parents}
+use Rattle.press_spec.specs.Links.{link, links, sink}
 use Rattle.press_spec.specs.Trim.{usesFrom}
-use Rattle.press_spec.specs.Recycle.{unreached, reached, Fit, recycle, Fate, fates}
-use Rattle.press_spec.specs.Rebuild.{Built, standIn, standing, rebuild}
-use Rattle.press_spec.specs.Order.{orderFrom, laid}
-use Rattle.press_spec.specs.Press.{conclusion, reaches, recycled, arranged, chosenFit, pressedFrom, pressed}
-use Rattle.press_spec.proofs.Proper.{ProperNode, AllProper, Kept}
-use Rattle.press_spec.proofs.Nodes.{link-at, links-falling, proper-falling}
+use Rattle.press_spec.specs.Plans.{plan}
+use Rattle.press_spec.specs.Recycle.{Reach, unreached, reached, Fit, fitOf, Fate, fates}
+use Rattle.press_spec.specs.Rebuild.{Built, standIn, standing, rebuild, Ended, endedAt}
+use Rattle.press_spec.specs.Lower.{Lowered, lowered, unitConcludes, returnOf, Back}
+use Rattle.press_spec.specs.Units.{unitsLow, unitsBuilt, lowerUnits}
+use Rattle.press_spec.specs.Press.{conclusion, reaches, recycled, shortened, lowerBy, arranged, chosenFit, concluded, pressedFrom, pressed}
+use Rattle.press_spec.proofs.Proper.{AllProper, Kept}
+use Rattle.press_spec.proofs.Nodes.{Falling, links-falling, proper-falling}
 use Rattle.press_spec.proofs.Rebuilt.{Rebuilding, rebuilt, IsKept, StandsIn, standIn-sound, standIn-below}
 use Rattle.press_spec.proofs.Allowed.{Allowed, allowed-closed, standing-within}
 use Rattle.press_spec.proofs.Fair.{Fair, chosen-fair}
 use Rattle.press_spec.proofs.Recycled.{setsIn, set-is, is-kept, recycle-allowed, recycle-keeps, recycle-starts}
-use Rattle.press_spec.proofs.Ordered.{Ordering, orderFrom-ends}
-use Rattle.press_spec.proofs.Laid.{laid-some, laid-proper, laid-used, laid-concludes, laid-fits, laid-shorter}
+use Rattle.press_spec.proofs.Counted.{order-fits}
+use Rattle.press_spec.proofs.Laid.{laid-shorter}
+use Rattle.press_spec.proofs.Ending.{Ending, ending-kept, ending-concludes}
+use Rattle.press_spec.proofs.Returned.{Lowers, unit-never-concludes}
+use Rattle.press_spec.proofs.Shortened.{half-more}
+use Rattle.press_spec.proofs.Lowered.{lowering-ending, lowering-shortens}
+use Rattle.press_spec.proofs.Units.{units-lower}
 
 pub sink-inside : (s : List Node) → 1 ≤ length s → sink s < length s
 unfolding sink
 sink-inside s h = let k : pred (length s) < length s = omega arith in k
 
--- ---- any cuts that are Allowed, the rebuild, and any order
+-- ---- any cuts that are Allowed, and the rebuild
 
 module _ (e : Edition) (rules : List ℕ) (s : List Node) (proper : AllProper e rules s) (full : 1 ≤ length s)
     (says : ℕ → Fate) (S : ℕ → Literals) (allowed : Allowed says S (links s)) (sinks : IsKept says (sink s)) where
@@ -39,77 +52,139 @@ module _ (e : Edition) (rules : List ℕ) (s : List Node) (proper : AllProper e 
   walk : Rebuilding s says (length s) b
   walk = rebuilt s says (proper-falling e rules s proper)
 
-  abbrev Q : ℕ → Type 0
-  Q m = StandsIn s says b m
-
-  start : Q (standIn b (sink s))
-  start = (sink s, sink-inside s full, sinks, refl)
-
-  sound : (m : ℕ) → Q m → ProperNode e rules (b .nodes) m (nodeAt (b .nodes) m) × Parents Q (link (nodeAt (b .nodes) m))
-  sound = standIn-sound e rules s says proper (allowed-closed says S (links s) allowed) b walk
-
-  small : (m : ℕ) → Q m → m < length s
+  small : (m : ℕ) → StandsIn s says b m → m < length s
   small = standIn-below s says b walk
 
-  within : Within (S (sink s)) (conclusion s) → Within (clause (nodeAt (b .nodes) (standIn b (sink s)))) (conclusion s)
-  unfolding conclusion standing
-  within sub x h = elim (standing-within e rules s proper says S allowed b walk (sink s) (sinks .0) (sink-inside s full) (sinks .1) x h) [
-    | inl k ↦ k
-    | inr k ↦ sub x k
-  ]
+  within : Within (S (sink s)) (conclusion s) → Within (standing b (sink s)) (conclusion s)
+  unfolding conclusion
+  within sub x h =
+      elim (standing-within e rules s says (λ n z h q. proper n h) S allowed b walk (sink s) (sinks .0) (sink-inside s full) (sinks .1) x h) [
+        | inl k ↦ k
+        | inr k ↦ sub x k
+      ]
 
-  pub laid-kept : (order : List ℕ) → Ordering (links (b .nodes)) Q (standIn b (sink s)) order → Within (S (sink s)) (conclusion s)
-      → Kept e rules s (laid (b .nodes) order)
-  laid-kept order o sub = record {
-    proper = laid-proper (b .nodes) Q e rules (λ m q. sound m q .0) order (o .each);
-    used = laid-used (b .nodes) Q (standIn b (sink s)) order o;
-    some = laid-some (b .nodes) Q (standIn b (sink s)) order o;
-    fits = laid-fits (b .nodes) Q (length s) small order (o .each);
-    smaller = λ x h. within sub x (rw (laid-concludes (b .nodes) Q (standIn b (sink s)) order o) at h);
-    shorter = laid-shorter (b .nodes) Q (length s) small order (o .each) s refl (walk .steps);
+  pub cuts-ending : Within (S (sink s)) (conclusion s) → Ending e rules s (endedAt (rebuild s says) (sink s)) (StandsIn s says (rebuild s says))
+  unfolding endedAt
+  cuts-ending sub = record {
+    earlier = walk .falling;
+    small = λ m q. rw (walk .nodes-long) (small m q);
+    last = (sink s, sink-inside s full, sinks, refl);
+    sound = standIn-sound e rules s says (λ n z h q. proper n h) (allowed-closed says S (links s) allowed) b walk;
+    within = unfold standing in within sub;
+    fits = λ order o. order-fits (links (b .nodes)) (StandsIn s says b) (length s) small order o;
+    shorter = λ order o. laid-shorter (b .nodes) (StandsIn s says b) (length s) small order o s refl (walk .steps);
   }
-
-  pub cuts-kept : Within (S (sink s)) (conclusion s) → Kept e rules s (arranged (rebuild s says) (sink s))
-  unfolding arranged
-  cuts-kept sub =
-      laid-kept (orderFrom (links (b .nodes)) (standIn b (sink s)))
-      (orderFrom-ends (links (b .nodes)) (links-falling (b .nodes) (walk .falling)) Q (λ m q. rw (link-at (b .nodes) m) (sound m q .1)) (standIn b (sink s)) start) sub
 
 -- ---- recycling
 
-module _ (e : Edition) (rules : List ℕ) (s : List Node) (proper : AllProper e rules s) (full : 1 ≤ length s) where
-  pub recycled-kept : (fit : Fit) → Fair (usesFrom (links s) (sink s)) fit → (S₀ : Literals) → Within S₀ (conclusion s)
-      → Kept e rules s (arranged (recycled fit S₀ s) (sink s))
-  unfolding recycled
-  recycled-kept fit fair S₀ sub =
-      let f = links-falling s (proper-falling e rules s proper) in
-      let i : sink s < length (links s) = rw (length-map s link) (sink-inside s full) in
-      let table = recycle fit S₀ (links s) (sink s) in
-      cuts-kept e rules s proper full (fates (links s) table) (setsIn table)
-      (recycle-allowed fit S₀ (links s) f (sink s) i fair) (recycle-keeps fit S₀ (links s) f (sink s) i fair)
-      (rw (recycle-starts fit S₀ (links s) f (sink s) i fair) sub)
+-- a node that stands for one that recycling reached
+abbrev pub IsReached : Fit → Literals → List Node → ℕ → Type 0
+IsReached fit S s n = StandsIn s (fates (links s) (reaches fit S s)) (recycled fit S s) n
+
+module _ (e : Edition) (rules : List ℕ) (s : List Node) (proper : AllProper e rules s) (full : 1 ≤ length s) (fit : Fit)
+    (fair : Fair (usesFrom (links s) (sink s)) fit) (S₀ : Literals) where
+  abbrev table : List Reach
+  table = reaches fit S₀ s
+
+  abbrev says : ℕ → Fate
+  says = fates (links s) table
+
+  falling : Falling (links s)
+  falling = links-falling s (proper-falling e rules s proper)
+
+  inside : sink s < length (links s)
+  inside = rw (length-map s link) (sink-inside s full)
+
+  allowed : Allowed says (setsIn table) (links s)
+  allowed = recycle-allowed fit S₀ (links s) falling (sink s) inside fair
+
+  pub recycled-ending : Within S₀ (conclusion s) → Ending e rules s (shortened fit S₀ s) (IsReached fit S₀ s)
+  unfolding shortened recycled
+  recycled-ending sub =
+      cuts-ending e rules s proper full says (setsIn table) allowed (recycle-keeps fit S₀ (links s) falling (sink s) inside fair)
+      (rw (recycle-starts fit S₀ (links s) falling (sink s) inside fair) sub)
 
   -- The fact that every recycling is proved from: "the new clause has no literal outside the old one and S".
-  pub recycled-within : (fit : Fit) → Fair (usesFrom (links s) (sink s)) fit → (S₀ : Literals) → (n : ℕ) (R : Literals) → n < length s
-      → getD (reaches fit S₀ s) n unreached ≡ reached R → (x : Literal) → holds x (standing (recycled fit S₀ s) n) ≡ true
-      → (holds x (clause (nodeAt s n)) ≡ true) ⊎ (holds x R ≡ true)
+  pub recycled-within : (n : ℕ) (R : Literals) → n < length s → getD (reaches fit S₀ s) n unreached ≡ reached R
+      → (x : Literal) → holds x (standing (recycled fit S₀ s) n) ≡ true → (holds x (clause (nodeAt s n)) ≡ true) ⊎ (holds x R ≡ true)
   unfolding recycled
-  recycled-within fit fair S₀ n R h q x t =
-      let f = links-falling s (proper-falling e rules s proper) in
-      let i : sink s < length (links s) = rw (length-map s link) (sink-inside s full) in
-      let table = reaches fit S₀ s in
+  recycled-within n R h q x t =
       let (z, y) = is-kept (links s) table n R q in
       rw (set-is (links s) table n R q) at
-      (standing-within e rules s proper (fates (links s) table) (setsIn table) (recycle-allowed fit S₀ (links s) f (sink s) i fair)
-      (rebuild s (fates (links s) table)) (rebuilt s (fates (links s) table) (proper-falling e rules s proper)) n z h y x t)
+      (standing-within e rules s says (λ k z h q. proper k h) (setsIn table) allowed (rebuild s says) (rebuilt s says (proper-falling e rules s proper)) n z h y x t)
 
--- "From now on the sink's S is its clause.": it is within the conclusion, being just that
-pub pressed-kept : (plan : Plan) (rules : List ℕ) (s : List Node) → AllProper (plan .edition) rules s → 1 ≤ length s
-    → Kept (plan .edition) rules s (pressed plan s)
-unfolding pressed pressedFrom
-pressed-kept plan rules s proper full =
-    recycled-kept (plan .edition) rules s proper full (chosenFit plan s) (chosen-fair (plan .recycling) (usesFrom (links s) (sink s))) (conclusion s)
-    (λ x h. h)
+-- ---- the press: "the sink's S is its clause", which is within the conclusion, being just that
+
+module _ (e : Edition) (how : Recycling) (rules : List ℕ) (s : List Node) (proper : AllProper e rules s) (full : 1 ≤ length s) where
+  abbrev count : ℕ → ℕ
+  count = usesFrom (links s) (sink s)
+
+  -- what 1 to 4 leave
+  abbrev four : Ended
+  four = shortened (fitOf how count) (conclusion s) s
+
+  four-ending : Ending e rules s four (IsReached (fitOf how count) (conclusion s) s)
+  four-ending = recycled-ending e rules s proper full (fitOf how count) (chosen-fair how count) (conclusion s) (λ x h. h)
+
+  four-long : length (four .nodes) ≡ length s
+  unfolding shortened recycled endedAt
+  four-long = rebuilt s _ (proper-falling e rules s proper) .nodes-long
+
+  abbrev low : ℕ → Lowered
+  low = unitsLow (variables e) four
+
+  abbrev builtOf : Built
+  builtOf = unitsBuilt (variables e) four
+
+  units : Lowers (four .nodes) (four .last) low builtOf
+  units = units-lower e rules (variables e) (four .nodes) (four .last) (ending-concludes e rules s four _ four-ending)
+
+  low-kept : (w : Lowering) → Kept e rules s (arranged (lowerBy w (variables e) four))
+  unfolding lowerBy lowerUnits
+  low-kept Nothing = ending-kept e rules s four _ four-ending
+  low-kept Units = ending-kept e rules s _ _ (lowering-ending e rules s four _ four-ending low builtOf units)
+
+  low-shorter : (w : Lowering) → stepsOf (arranged (lowerBy w (variables e) four)) ≤ stepsOf (arranged four)
+  unfolding lowerBy lowerUnits
+  low-shorter Nothing = omega arith
+  low-shorter Units = omega (arith, lowering-shortens e rules s four _ four-ending low builtOf units)
+
+  low-numbers : (w : Lowering) → 2 * length (lowerBy w (variables e) four .nodes) ≤ 3 * length s
+  unfolding lowerBy lowerUnits
+  low-numbers Nothing = omega (arith, four-long)
+  low-numbers Units =
+      omega (arith, half-more e rules (four .nodes) (four .last) (ending-concludes e rules s four _ four-ending) low builtOf units, four-long)
+
+  -- the middle case of the return never comes up
+  pub no-unit-concludes : (i : ℕ) (t : Ended) (x : Literal)
+      → let four = shortened (fitOf how (usesFrom (links s) (sink s))) (conclusion s) s in
+      let b = unitsBuilt (variables e) four in
+      Back (unitsLow (variables e) four) b (four .last) (suc i) t → unitsLow (variables e) four i ≡ lowered x
+      → returnOf x (clause (nodeAt (t .nodes) (standIn b i))) (clause (nodeAt (t .nodes) (t .last))) ≡ unitConcludes → ⊥
+  no-unit-concludes = unit-never-concludes e rules (four .nodes) (four .last) (ending-concludes e rules s four _ four-ending) low builtOf units
+
+module _ (plan : Plan) (rules : List ℕ) (s : List Node) (proper : AllProper (plan .edition) rules s) (full : 1 ≤ length s) where
+  -- "Demand 3 holds for each choice."
+  pub pressed-kept : Kept (plan .edition) rules s (pressed plan s)
+  unfolding pressed pressedFrom concluded
+  pressed-kept = low-kept (plan .edition) (plan .recycling) rules s proper full (plan .lowering)
+
+  -- numbers stay below half as many again as there are records
+  pub concluded-numbers : 2 * length (concluded plan (conclusion s) s .nodes) ≤ 3 * length s
+  unfolding concluded
+  concluded-numbers = low-numbers (plan .edition) (plan .recycling) rules s proper full (plan .lowering)
+
+-- no choice of lowering has more steps than none
+pub lowering-shorter : (e : Edition) (how : Recycling) (w : Lowering) (rules : List ℕ) (s : List Node) → AllProper e rules s → 1 ≤ length s
+    → stepsOf (pressed (plan e how w) s) ≤ stepsOf (pressed (plan e how Nothing) s)
+unfolding pressed pressedFrom concluded lowerBy
+lowering-shorter e how w rules s proper full = low-shorter e how rules s proper full w
+
+-- "The program goes on without it.": with nothing lowered, step 5 arranges what step 4 leaves
+pub nothing-as-before : (e : Edition) (how : Recycling) (s : List Node)
+    → pressed (plan e how Nothing) s ≡ arranged (shortened (chosenFit (plan e how Nothing) s) (conclusion s) s)
+unfolding pressed pressedFrom concluded lowerBy
+nothing-as-before e how s = refl
 
 -- "Sheets with an empty conclusion press as before.": as with an empty set for the sink
 pub empty-as-before : (plan : Plan) (s : List Node) → conclusion s ≡ none → pressed plan s ≡ pressedFrom plan none s

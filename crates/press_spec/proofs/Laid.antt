@@ -113,7 +113,7 @@ module _ (s : List Node) where
     | inr e ↦ rw e (uses-right p (numberIn order l) (numberIn order r))
   ]
 
-  steps-laid : (order : List ℕ) → stepsOf (laid s order) ≡ sumOver (λ n. stepOf (nodeAt s n)) order
+  pub steps-laid : (order : List ℕ) → stepsOf (laid s order) ≡ sumOver (λ n. stepOf (nodeAt s n)) order
   unfolding laid sumOver
   steps-laid [] = unfold stepsOf in refl
   steps-laid (n ∷ order) =

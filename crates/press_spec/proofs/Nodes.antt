@@ -1,15 +1,15 @@
 -- Laws of lists of nodes: what is left of them, one more node, and parents that stand earlier.
 use Prim.Native.Nat.{ℕ, zero, suc, _+_, _≤_, _<_}
-use mathlib.Core.Path.{_≡_}
+use mathlib.Core.Path.{_≡_, ap}
 use mathlib.Core.List.{List, [], _∷_, _++_}
 use native.Mathlib.Omega.{arith}
 use native.Mathlib.Decide.{ℕ-discrete, decLt}
-use lib.ListN.{length, drop, length-append, List·getD-append, List·getD-eq-default, List·getD-map}
-use lib.Seq.{getD-append-seam}
+use lib.ListN.{length, take, drop, length-append, List·getD-append, List·getD-eq-default, List·getD-map}
+use lib.Seq.{getD-append-seam, getD-take}
 use Rattle.base.proofs.Lists.{drop-more}
 use Rattle.clause.specs.Clauses.{none}
 use Rattle.sheet.specs.declared.edition.Edition.{Edition}
-use Rattle.sheet.specs.Records.{Node, given, step, nodeAt}
+use Rattle.sheet.specs.Records.{Node, given, step, clause, nodeAt}
 use Rattle.sheet.specs.Counts.{stepOf, stepsOf}
 use Rattle.press_spec.specs.Links.{Link, leaf, join, link, links, linkAt, Parents}
 use Rattle.press_spec.specs.Trim.{usesIn, uses}
@@ -24,6 +24,12 @@ nodes-from s n h = drop-more s n (given 0 none) h
 pub links-from : (t : List Link) (n : ℕ) → n < length t → drop n t ≡ linkAt t n ∷ drop (n + 1) t
 unfolding linkAt
 links-from t n h = drop-more t n (leaf 0) h
+
+-- ---- the first k nodes
+
+pub clause-front : (s : List Node) (k n : ℕ) → n < k → clause (nodeAt (take k s) n) ≡ clause (nodeAt s n)
+unfolding nodeAt
+clause-front s k n h = ap clause (getD-take k s n (given 0 none) h)
 
 -- ---- one more node
 
@@ -53,7 +59,7 @@ steps-more [] m = omega arith
 steps-more (k ∷ s) m = omega (arith, steps-more s m)
 
 -- the checks of a node look only at what stands before it
-proper-more : (e : Edition) (rules : List ℕ) (s : List Node) (m : Node) (n : ℕ) → n ≤ length s → (k : Node)
+pub proper-more : (e : Edition) (rules : List ℕ) (s : List Node) (m : Node) (n : ℕ) → n ≤ length s → (k : Node)
     → ProperNode e rules s n k → ProperNode e rules (s ++ (m ∷ [])) n k
 proper-more e rules s m n h (given line c) d = d
 proper-more e rules s m n h (step p l r c) d =

@@ -46,7 +46,7 @@ module _ (s : List Link) (from : ℕ) where
       let here : Reaches s from i = f i (omega (arith, eqb-false (getD m i 0) 0 e)) in
       mark-reached (set m l 1) r (right here a) (mark-reached m l (left here a) f)
 
-  marked-reached : AllReached (trim s from)
+  pub marked-reached : (n : ℕ) → Marked (trim s from) n → Reaches s from n
   unfolding trim trimTurn
   marked-reached =
       fall-keeps AllReached (trimTurn s) (λ i m. turn-reached i m (linkAt s i) (eqb (getD m i 0) 0) refl refl) (suc from) _

@@ -18,7 +18,7 @@ use Rattle.sheet.specs.Counts.{stepOf}
 use Rattle.press_spec.specs.Recycle.{Cut, cutLeft, cutRight, uncut, Fate, lost, kept}
 use Rattle.press_spec.specs.Rebuild.{Built, built, standIn, standing, Way, takeLeft, takeRight, stepAnew, wayOf, standsFor, stepMade, newStep, byWay, renew, rebuildTurn, rebuild}
 use Rattle.press_spec.specs.Links.{Link, leaf, join, link, links, linkAt, Parents}
-use Rattle.press_spec.proofs.Proper.{ProperNode, AllProper}
+use Rattle.press_spec.proofs.Proper.{ProperNode}
 use Rattle.press_spec.proofs.Nodes.{Falls, Earlier, link-at, by-rising}
 
 -- ---- what the finished tables say of a node
@@ -223,6 +223,10 @@ ParentsKept says z (join p l r) = EdgesKept says z l r
 abbrev pub Closed : (ℕ → Fate) → List Link → Type 0
 Closed says s = (n : ℕ) (z : Cut) → n < length s → says n ≡ kept z → ParentsKept says z (linkAt s n)
 
+-- the kept nodes are proper; after an earlier rebuild the others need not be
+abbrev pub ProperKept : Edition → List ℕ → List Node → (ℕ → Fate) → Type 0
+ProperKept e rules s says = (n : ℕ) (z : Cut) → n < length s → says n ≡ kept z → ProperNode e rules s n (nodeAt s n)
+
 -- m is the stand-in of a kept node
 abbrev pub StandsIn : List Node → (ℕ → Fate) → Built → ℕ → Type 0
 StandsIn s says b m = (n : ℕ) × (n < length s) × IsKept says n × (standIn b n ≡ m)
@@ -231,7 +235,7 @@ pub standIn-below : (s : List Node) (says : ℕ → Fate) (b : Built) → Rebuil
     → (m : ℕ) → StandsIn s says b m → m < length s
 standIn-below s says b f m (n, h, k, q) = omega (arith, f .low n)
 
-module _ (e : Edition) (rules : List ℕ) (s : List Node) (says : ℕ → Fate) (proper : AllProper e rules s) (closed : Closed says (links s))
+module _ (e : Edition) (rules : List ℕ) (s : List Node) (says : ℕ → Fate) (proper : ProperKept e rules s says) (closed : Closed says (links s))
     (b : Built) (f : Rebuilding s says (length s) b) where
   abbrev Sound : ℕ → Type 0
   Sound m = ProperNode e rules (b .nodes) m (nodeAt (b .nodes) m) × Parents (StandsIn s says b) (link (nodeAt (b .nodes) m))
@@ -239,13 +243,13 @@ module _ (e : Edition) (rules : List ℕ) (s : List Node) (says : ℕ → Fate) 
   abbrev SoundAt : ℕ → Type 0
   SoundAt n = n < length s → IsKept says n → Sound (standIn b n)
 
-  module _ (n : ℕ) (inside : n < length s) (below : (m : ℕ) → m < n → SoundAt m) where
+  module _ (n : ℕ) (inside : n < length s) (here : ProperNode e rules s n (nodeAt s n)) (below : (m : ℕ) → m < n → SoundAt m) where
     takes : (m : ℕ) → m < n → IsKept says m → standIn b n ≡ standIn b m → Sound (standIn b n)
     takes m h k q = rw q (below m h (omega arith) k)
 
     module _ (p l r : ℕ) (c : Literals) (a : nodeAt s n ≡ step p l r c) where
       old : ProperNode e rules s n (step p l r c)
-      old = rw a at (proper n inside)
+      old = rw a at here
 
       uncut-sound : (u v : Bool) → holds (plus p) (standing b l) ≡ u → holds (minus p) (standing b r) ≡ v → EdgesKept says uncut l r
           → ByWay b (cond u (cond v stepAnew takeRight) takeLeft) n p l r → Sound (standIn b n)
@@ -267,14 +271,14 @@ module _ (e : Edition) (rules : List ℕ) (s : List Node) (says : ℕ → Fate) 
 
     node-sound : (m : Node) (z : Cut) → nodeAt s n ≡ m → ParentsKept says z (link m) → Renewed b n m (kept z) → Sound (standIn b n)
     node-sound (given line c) z a k q =
-        let d : ProperNode e rules s n (given line c) = rw a at (proper n inside) in
+        let d : ProperNode e rules s n (given line c) = rw a at here in
         rw (q .0, q .1) (d, tt)
     node-sound (step p l r c) z a k q = step-sound p l r c a z k q
 
-    sound-next : IsKept says n → Sound (standIn b n)
-    sound-next (z, q) = node-sound (nodeAt s n) z refl (rw (link-at s n) at (closed n z (rw (length-map s link) inside) q)) (rw q at (f .done n inside))
+    sound-next : (z : Cut) → says n ≡ kept z → Sound (standIn b n)
+    sound-next z q = node-sound (nodeAt s n) z refl (rw (link-at s n) at (closed n z (rw (length-map s link) inside) q)) (rw q at (f .done n inside))
 
   -- every stand-in of a kept node is proper among the rebuilt nodes, and its parents are such stand-ins again
   pub standIn-sound : (m : ℕ) → StandsIn s says b m
       → ProperNode e rules (b .nodes) m (nodeAt (b .nodes) m) × Parents (StandsIn s says b) (link (nodeAt (b .nodes) m))
-  standIn-sound m (n, h, k, q) = rw (← q) (by-rising SoundAt (λ i g h k. sound-next i h g k) n h k)
+  standIn-sound m (n, h, k, q) = rw (← q) (by-rising SoundAt (λ i g h k. sound-next i h (proper i (k .0) h (k .1)) g (k .0) (k .1)) n h k)

@@ -91,6 +91,9 @@ module _ (s : List Link) (earlier : Falling s) (from : ℕ) (inside : from < len
       fall-by Trimming (trimTurn s) (suc from) _
       (λ i m h t. trim-one i m (omega arith) t (linkAt s i) (eqb (getD m i 0) 0) refl refl) trim-start
 
+  pub trim-long : length (trim s from) ≡ length s
+  trim-long = trims .long
+
   pub trim-keeps : Marked (trim s from) from
   trim-keeps = trims .start
 

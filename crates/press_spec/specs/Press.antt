@@ -8,7 +8,10 @@ use Rattle.sheet.specs.declared.Reason.{Reason}
 use Rattle.sheet.specs.declared.Verdict.{Verdict}
 use Rattle.sheet.specs.declared.Verdict.the-variants.{Fine, Refused}
 use Rattle.sheet.specs.declared.edition.Edition.{Edition}
+use Rattle.press_spec.specs.declared.Lowering.{Lowering}
+use Rattle.press_spec.specs.declared.Lowering.the-variants.{Nothing, Units}
 use Rattle.press_spec.specs.declared.Plan.{Plan}
+use Rattle.sheet.specs.Editions.{variables}
 use Rattle.sheet.specs.Reasons.{numberOf}
 use Rattle.sheet.specs.Records.{Node, clause, nodeAt}
 use Rattle.sheet.specs.Fields.{sheetBytes, ruleLines}
@@ -17,7 +20,8 @@ use Rattle.press_spec.specs.Links.{links, sink}
 use Rattle.press_spec.specs.Judge.{Sizes, sizes, checkPress, Judged, proper, bad, judge}
 use Rattle.press_spec.specs.Trim.{usesFrom}
 use Rattle.press_spec.specs.Recycle.{Fit, Reach, fitOf, recycle, fates}
-use Rattle.press_spec.specs.Rebuild.{Built, standIn, rebuild}
+use Rattle.press_spec.specs.Rebuild.{Built, rebuild, Ended, endedAt}
+use Rattle.press_spec.specs.Units.{lowerUnits}
 use Rattle.press_spec.specs.Order.{orderFrom, laid}
 use Rattle.press_spec.specs.Drops.{withDrops, markLines, total}
 
@@ -29,17 +33,30 @@ reaches fit S s = recycle fit S (links s) (sink s)
 unfoldable pub recycled : Fit → Literals → List Node → Built
 recycled fit S s = rebuild s (fates (links s) (reaches fit S s))
 
--- 4 and 5: from the sink's stand-in
-unfoldable pub arranged : Built → ℕ → List Node
-arranged b n = laid (b .nodes) (orderFrom (links (b .nodes)) (standIn b n))
+-- 4 starts from the sink's stand-in
+unfoldable pub shortened : Fit → Literals → List Node → Ended
+shortened fit S s = endedAt (recycled fit S s) (sink s)
+
+-- after 4, by the pass chosen, over v variables
+unfoldable pub lowerBy : Lowering → ℕ → Ended → Ended
+lowerBy Nothing v t = t
+lowerBy Units v t = lowerUnits v t
+
+-- 4 and 5: from the conclusion
+unfoldable pub arranged : Ended → List Node
+arranged t = laid (t .nodes) (orderFrom (links (t .nodes)) (t .last))
 
 -- the way to fit sets that the plan chooses
 abbrev pub chosenFit : Plan → List Node → Fit
 chosenFit plan s = fitOf (plan .recycling) (usesFrom (links s) (sink s))
 
--- 1 to 5, by the passes chosen, with a set for the sink
+-- 1 to 4 and lowering, by the passes chosen, with a set for the sink
+unfoldable pub concluded : Plan → Literals → List Node → Ended
+concluded plan S s = lowerBy (plan .lowering) (variables (plan .edition)) (shortened (chosenFit plan s) S s)
+
+-- 1 to 5
 unfoldable pub pressedFrom : Plan → Literals → List Node → List Node
-pressedFrom plan S s = arranged (recycled (chosenFit plan s) S s) (sink s)
+pressedFrom plan S s = arranged (concluded plan S s)
 
 unfoldable pub conclusion : List Node → Literals
 conclusion s = clause (nodeAt s (sink s))

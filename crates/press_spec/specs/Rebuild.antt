@@ -56,3 +56,15 @@ rebuildTurn s says n b = renew n (nodeAt s n) (says n) b
 
 unfoldable pub rebuild : List Node → (ℕ → Fate) → Built
 rebuild s says = rise (rebuildTurn s says) (length s) (built s (replicate (length s) 0))
+
+-- a proof, and the number of its conclusion
+pub record Ended : Type 0 where
+  pub nodes : List Node
+  pub last : ℕ
+
+abbrev pub ended : List Node → ℕ → Ended
+ended s n = record { nodes = s; last = n }
+
+-- the rebuilt nodes, with n's stand-in for a conclusion
+unfoldable pub endedAt : Built → ℕ → Ended
+endedAt b n = ended (b .nodes) (standIn b n)

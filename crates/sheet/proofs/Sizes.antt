@@ -5,7 +5,7 @@ use native.Mathlib.Omega.{arith}
 use Rattle.clause.specs.Denote.{width}
 use Rattle.sheet.specs.declared.edition.Edition.{Edition}
 use Rattle.sheet.specs.declared.edition.Edition.the-variants.{Narrow, Wide}
-use Rattle.sheet.specs.Editions.{variables, setBytes, recordBytes, lineBytes, pressRecords, pressedRecords, replayRecords, capacity, mostRecords}
+use Rattle.sheet.specs.Editions.{variables, setBytes, recordBytes, lineBytes, pressRecords, pressedRecords, replayRecords, mostNodes, mostRecords}
 
 pub record-some : (e : Edition) → 0 < recordBytes e
 record-some Narrow = omega arith
@@ -67,7 +67,7 @@ records-fit Wide k n h = omega arith
 
 -- ---- no edition goes beyond what all have room for
 
-pub press-few : (e : Edition) → pressRecords e ≤ capacity
+pub press-few : (e : Edition) → pressRecords e ≤ mostNodes
 press-few Narrow = omega arith
 press-few Wide = omega arith
 
