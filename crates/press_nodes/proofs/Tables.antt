@@ -6,13 +6,13 @@ use native.Mathlib.Omega.{arith}
 use native.Mathlib.Decide.{ℕ-discrete, decLt}
 use lib.Dec.{eqb·zero-suc, eqb·suc-zero, eqb·suc-suc}
 use lib.ListN.{length, getD, set, take, length-map, length-set, List·getD-map, List·getD-eq-default}
-use lib.Seq.{getD-set-same, getD-set-other}
+use lib.Seq.{getD-take, getD-set-same, getD-set-other}
 use borrow.Author.Tests.{eq-eqb, ne-eqb}
-use Rattle.base.proofs.Lists.{map-set}
+use Rattle.base.proofs.Lists.{map-set, map-take}
 use Rattle.clause.specs.Clauses.{Literals, literals}
 use Rattle.sheet.specs.Records.{given, step, clause, nodeAt}
 use Rattle.press_spec.specs.Links.{Link, leaf, join, link, links, linkAt}
-use Rattle.press_nodes.specs.Tables.{ofOne, ofTwo, pivotAt, leftAt, rightAt, lineAt, linkOf, linksIn, setsIn, clausesIn, changed, beside, nodeOf, nodesIn, Sound, Links}
+use Rattle.press_nodes.specs.Tables.{ofOne, ofTwo, pivotAt, leftAt, rightAt, lineAt, linkOf, linksIn, clauseWords, setsIn, clausesIn, changed, beside, nodeOf, nodesIn, Sound, Links}
 use Rattle.press_spec.proofs.Nodes.{Falls, Falling}
 
 -- ---- links
@@ -222,3 +222,20 @@ module _ {h : List ℕ} (t : Links h) where
 
   pub links-falling : Falling (linksIn h)
   links-falling = sound-falling (linksIn h) links-sound
+
+-- ---- the first k nodes
+
+module _ (k : ℕ) (h c : List ℕ) where
+  same-clauses : (n : ℕ) → n < k → clausesIn (take (clauseWords k) c) n ≡ clausesIn c n
+  unfolding clausesIn setsIn
+  same-clauses n i = rw (
+    getD-take (clauseWords k) c (2 * (2 * n) + 1) 0 (omega arith),
+    getD-take (clauseWords k) c (2 * (2 * n)) 0 (omega arith),
+    getD-take (clauseWords k) c (2 * (2 * n + 1) + 1) 0 (omega arith),
+    getD-take (clauseWords k) c (2 * (2 * n + 1)) 0 (omega arith),
+  )
+
+  pub nodes-front : nodesIn (take k h) (take (clauseWords k) c) ≡ take k (nodesIn h c)
+  unfolding nodesIn linksIn
+  nodes-front =
+      rw (map-take linkOf h k) (beside-take nodeOf k (linksIn h) (clausesIn c) (clausesIn (take (clauseWords k) c)) same-clauses)

@@ -52,7 +52,7 @@ fn way_of(cut: Cut, p: u8, l: Clause, r: Clause) -> Way
     }
 }
 
-fn stand_in(stand_ins: &[u16], n: NodeNo) -> NodeNo
+pub fn stand_in(stand_ins: &[u16], n: NodeNo) -> NodeNo
     requires { ⌜ n .0 < length (now «stand_ins») ⌝ }
     ensures { λ r. ⌜ r .0 ≡ getD (now («stand_ins» .entry)) (n .0) 0 ⌝ }
 {

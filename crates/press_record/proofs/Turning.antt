@@ -2,10 +2,10 @@
 use mathlib.Core.Path.{_≡_, refl, sym, ap, _∙_}
 use mathlib.Core.Bool.{false}
 use mathlib.Core.List.{List}
-use Prim.Native.Nat.{ℕ, _<_, _≤_}
+use Prim.Native.Nat.{ℕ, _≤_}
 use lib.ListN.{length, take, set}
-use lib.Seq.{length-take-le, getD-take}
-use Rattle.clause.specs.Clauses.{Literals, none}
+use lib.Seq.{length-take-le}
+use Rattle.clause.specs.Clauses.{Literals}
 use Rattle.sheet.specs.declared.Reason.{Reason}
 use Rattle.sheet.specs.declared.Reason.the-variants.{Kind}
 use Rattle.sheet.specs.declared.Verdict.{Verdict}
@@ -17,13 +17,10 @@ use Rattle.sheet.specs.Fields.{reading}
 use Rattle.sheet.specs.Checks.{checkEarlier, checkStep, checkGiven}
 use Rattle.sheet.proofs.Fine.{earlier-fine}
 use Rattle.press_spec.specs.Judge.{checkNode, Turn, goes, stops, byVerdict, byReading, turn}
+use Rattle.press_spec.proofs.Nodes.{clause-front}
 use Rattle.press_record.specs.Turns.{turnSays, turnStores}
 
 module _ (edition : Edition) (s : List Node) (next : ℕ) (h : next ≤ length s) where
-  clause-earlier : (n : ℕ) → n < next → clause (nodeAt (take next s) n) ≡ clause (nodeAt s n)
-  unfolding nodeAt
-  clause-earlier n l = ap clause (getD-take next s n (given 0 none) l)
-
   module _ (rules : List ℕ) (p l r : ℕ) (c : Literals) where
     pub left-late : (why : Reason) → checkEarlier next l ≡ Refused why → checkNode edition rules (take next s) (step p l r c) ≡ Refused why
     unfolding checkNode andThen
@@ -37,7 +34,7 @@ module _ (edition : Edition) (s : List Node) (next : ℕ) (h : next ≤ length s
         → checkNode edition rules (take next s) (step p l r c) ≡ checkStep p (clause (nodeAt s l)) (clause (nodeAt s r)) c
     unfolding checkNode andThen
     both-early d e =
-        rw (length-take-le next s h, d, e, clause-earlier l (earlier-fine next l d), clause-earlier r (earlier-fine next r e))
+        rw (length-take-le next s h, d, e, clause-front s next l (earlier-fine next l d), clause-front s next r (earlier-fine next r e))
 
 pub given-checked : (edition : Edition) (rules : List ℕ) (s : List Node) (line : ℕ) (c : Literals) → checkNode edition rules s (given line c) ≡ checkGiven edition rules line c
 unfolding checkNode

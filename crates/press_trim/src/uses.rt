@@ -6,7 +6,7 @@ ghost use lib.ListN.{length, getD};
 ghost use Rattle.sheet.specs.Editions.{capacity};
 ghost use Rattle.press_spec.specs.Links.{linkAt};
 ghost use Rattle.press_nodes.specs.Tables.{linksIn, Links};
-ghost use Rattle.press_spec.specs.Trim.{trimmed, naming, uses, usesFrom};
+ghost use Rattle.press_spec.specs.Trim.{trim, trimmed, naming, uses, usesFrom};
 use crate::trim;
 use press_nodes::clear;
 use press_nodes::link;
@@ -56,10 +56,12 @@ fn count_uses(links: &[u64], kept: &[u8], counts: &mut [u16])
     }
 }
 
-fn uses_with(links: &[u64], from: NodeNo, kept: &mut [u8], counts: &mut [u16])
+// The uses of each node in what `from` reaches, and in `kept` 1 for each node that it reaches, 0 for each other.
+pub fn uses_with(links: &[u64], from: NodeNo, kept: &mut [u8], counts: &mut [u16])
     requires { ⌜ Links (now links) ⌝ }
     requires { ⌜ (length (now kept) ≡ length (now links)) × (length (now counts) ≡ length (now links)) × (from .0 < length (now links)) ⌝ }
-    ensures { λ _. ⌜ ((m : ℕ) → getD (now (counts .exit)) m 0 ≡ usesFrom (linksIn (now (links .entry))) (from .0) m) ⌝ }
+    ensures uses { λ _. ⌜ ((m : ℕ) → getD (now (counts .exit)) m 0 ≡ usesFrom (linksIn (now (links .entry))) (from .0) m) ⌝ }
+    ensures marks { λ _. ⌜ now (kept .exit) ≡ trim (linksIn (now (links .entry))) (from .0) ⌝ }
 {
     trim::trim(links, from, kept);
     count_uses(links, kept, counts);

@@ -18,7 +18,7 @@ same-length-2 c = search needs
 
 returns : tie.Need-returns
 unfolding usesFrom
-returns c = λ m. c .before .before .count-uses .ensures m ∙ rw (c .before .before .before .before .before .before .before .trim .ensures)
+returns c = let marks = c .before .before .before .before .before .before .before .trim .ensures in (λ m. c .before .before .count-uses .ensures m ∙ rw marks, marks)
 
 pub uses-with-spec : {M : Type 1} → statement M
 uses-with-spec =
