@@ -1,1 +1,2 @@
 pub mod Recycled
+pub mod Chosen

@@ -1,17 +1,17 @@
-use native.Mathlib.Omega.{arith}
-use mathlib.Core.Path.{_≡_, sym, ap, _∙_}
-use mathlib.Core.List.{List, _++_}
 use Prim.Native.Nat.{ℕ, _-_, _≤_, _<_}
+use mathlib.Core.List.{List, _++_}
+use mathlib.Core.Path.{_≡_, sym, ap, _∙_}
+use native.Mathlib.Omega.{arith}
 use lib.ListN.{length, getD, take, drop, replicate, List·getD-append}
 use lib.Seq.{length-take-le}
-use Rattle.sheet.specs.Editions.{capacity}
-use Rattle.press_spec.specs.Order.{orderFrom, laid}
-use Rattle.press_spec.specs.Press.{pressed}
+use Rattle.sheet.specs.Editions.{mostNodes}
+use Rattle.press_spec.specs.Rebuild.{ended}
+use Rattle.press_spec.specs.Press.{shortened, conclusion, chosenFit}
 use Rattle.press_nodes.specs.Fates.{fatesIn}
-use Rattle.press_nodes.specs.Tables.{linksIn, nodesIn, Nodes}
+use Rattle.press_nodes.specs.Tables.{nodesIn, Nodes}
 use Rattle.press_nodes.proofs.Lent.{lent-long, front-long, front-again}
 use Rattle.press_rebuild.proofs.Sounds.{rebuilt-nodes}
-use Rattle.press_passes.proofs.Recycled.{from-below, from-pressed}
+use Rattle.press_passes.proofs.Recycled.{from-below, from-shortened}
 use borrow.Author.Needs.{needs}
 use Rattle.press_passes.proofs.shorten.Statement.{statement}
 use Rattle.press_passes.proofs.shorten.Tie as tie
@@ -28,8 +28,8 @@ module _ (st : tie.Start) where
   abbrev n : ℕ
   n = length links
 
-  few : n ≤ capacity
-  few = st .pre .0 .linked .few
+  few : n ≤ mostNodes
+  few = st .pre .2
 
   some : 0 < n
   some = st .pre .1
@@ -41,11 +41,11 @@ module _ (u : tie.After-uses-from) where
   abbrev counts : List ℕ
   counts = u .uses-from .last .1 .1 .0
 
-  counts-long : n counting ≤ length (counts ++ drop (n counting) (replicate capacity 0))
-  counts-long = front-long (replicate capacity 0) counts (n counting) (u .uses-from .kept .1 .1 .0) (few counting)
+  counts-long : n counting ≤ length (counts ++ drop (n counting) (replicate mostNodes 0))
+  counts-long = front-long (replicate mostNodes 0) counts (n counting) (u .uses-from .kept .1 .1 .0) (few counting)
 
-  counts-again : take (n counting) (counts ++ drop (n counting) (replicate capacity 0)) ≡ counts
-  counts-again = front-again (replicate capacity 0) counts (n counting) (u .uses-from .kept .1 .1 .0) (few counting)
+  counts-again : take (n counting) (counts ++ drop (n counting) (replicate mostNodes 0)) ≡ counts
+  counts-again = front-again (replicate mostNodes 0) counts (n counting) (u .uses-from .kept .1 .1 .0) (few counting)
 
 module _ (r : tie.After-recycle) where
   abbrev recycling : tie.Start
@@ -54,11 +54,11 @@ module _ (r : tie.After-recycle) where
   abbrev fates : List ℕ
   fates = r .recycle .last .1 .1 .1 .1 .0
 
-  fates-long : n recycling ≤ length (fates ++ drop (n recycling) (replicate capacity 0))
-  fates-long = front-long (replicate capacity 0) fates (n recycling) (r .recycle .kept .1 .1 .1 .1 .0) (few recycling)
+  fates-long : n recycling ≤ length (fates ++ drop (n recycling) (replicate mostNodes 0))
+  fates-long = front-long (replicate mostNodes 0) fates (n recycling) (r .recycle .kept .1 .1 .1 .1 .0) (few recycling)
 
-  fates-again : take (n recycling) (fates ++ drop (n recycling) (replicate capacity 0)) ≡ fates
-  fates-again = front-again (replicate capacity 0) fates (n recycling) (r .recycle .kept .1 .1 .1 .1 .0) (few recycling)
+  fates-again : take (n recycling) (fates ++ drop (n recycling) (replicate mostNodes 0)) ≡ fates
+  fates-again = front-again (replicate mostNodes 0) fates (n recycling) (r .recycle .kept .1 .1 .1 .1 .0) (few recycling)
 
 module _ (b : tie.After-rebuild) where
   abbrev building : tie.Start
@@ -78,10 +78,10 @@ module _ (b : tie.After-rebuild) where
 
   -- as it is read from the array
   abbrev from : ℕ
-  from = getD (standIns ++ drop (n building) (replicate capacity 0)) (n building - 1) 0
+  from = getD (standIns ++ drop (n building) (replicate mostNodes 0)) (n building - 1) 0
 
   stand-ins-long : length standIns ≡ n building
-  stand-ins-long = b .rebuild .kept .1 .1 .1 .0 ∙ lent-long capacity (n building) (few building)
+  stand-ins-long = b .rebuild .kept .1 .1 .1 .0 ∙ lent-long mostNodes (n building) (few building)
 
   read : from ≡ getD standIns (n building - 1) 0
   read = List·getD-append standIns _ 0 (n building - 1) (omega (arith, stand-ins-long, some building))
@@ -92,11 +92,11 @@ module _ (b : tie.After-rebuild) where
   below : from < length links′
   below = from-below (building .pre .0) links′ clauses′ _ _ (b .rebuild .ensures) from read (some building) long
 
-  passed : laid (nodesIn links′ clauses′) (orderFrom (linksIn links′) from) ≡ pressed (building .args .plan) (nodesIn (links building) (clauses building))
+  passed : let s = nodesIn (links building) (clauses building) in ended (nodesIn links′ clauses′) from ≡ shortened (chosenFit (building .args .plan) s) (conclusion s) s
   passed =
       let counted = b .before .before .before .before .before .before .before .before .before .before .before .before .before .before .before .before in
       let recycled = b .before .before .before .before .before .before .before .before in
-      from-pressed (building .pre .0) links′ clauses′ _ _ (b .rebuild .ensures) from read _ (some building) _
+      from-shortened (building .pre .0) links′ clauses′ _ _ (b .rebuild .ensures) from read (building .args .plan) (some building) _
       (λ m. rw (counts-again counted) (counted .uses-from .ensures m)) _ (b .before .before .before .before .before .before .before .before .before .before .before .before .before .clause-at .ensures)
       (ap fatesIn (fates-again recycled) ∙ recycled .recycle .ensures)
 
@@ -110,10 +110,10 @@ array-borrow-prefix-counts : tie.Need-array-borrow-prefix-counts
 array-borrow-prefix-counts c = search needs
 
 slice-aggregate-uses-from : tie.Need-slice-aggregate-uses-from
-slice-aggregate-uses-from c = sym (lent-long capacity _ (few (c .before .before .before .before .before)))
+slice-aggregate-uses-from c = sym (lent-long mostNodes _ (few (c .before .before .before .before .before)))
 
 uses-from-requires : tie.Need-uses-from-requires
-uses-from-requires c κs = let st = c .before .before .before .before .before in (st .pre .0 .linked, (lent-long capacity _ (few st), omega (arith, some st)))
+uses-from-requires c κs = let st = c .before .before .before .before .before in (st .pre .0 .linked, (lent-long mostNodes _ (few st), omega (arith, some st)))
 
 clause-at-requires : tie.Need-clause-at-requires
 clause-at-requires c κs = let st = c .before .before .before .before .before .before .before .before in omega (arith, st .pre .0 .size, some st)
@@ -128,11 +128,11 @@ array-borrow-prefix-fates : tie.Need-array-borrow-prefix-fates
 array-borrow-prefix-fates c = search needs
 
 slice-aggregate-recycle-2 : tie.Need-slice-aggregate-recycle-2
-slice-aggregate-recycle-2 c = sym (lent-long capacity _ (few (c .before .before .before .before .before .before .before .before .before .before .before .before)))
+slice-aggregate-recycle-2 c = sym (lent-long mostNodes _ (few (c .before .before .before .before .before .before .before .before .before .before .before .before)))
 
 recycle-requires : tie.Need-recycle-requires
 recycle-requires c κs = let st = c .before .before .before .before .before .before .before .before .before .before .before .before .before in
-    (st .pre .0 .linked, (length-take-le _ _ (counts-long (c .before .before .before .before .before .before .before)), lent-long capacity _ (few st), st .pre .2, some st))
+    (st .pre .0 .linked, (length-take-le _ _ (counts-long (c .before .before .before .before .before .before .before)), lent-long mostNodes _ (few st), st .pre .3, some st))
 
 array-share-prefix-fates : tie.Need-array-share-prefix-fates
 array-share-prefix-fates c = fates-long (c .before .before .before .before .before)
@@ -144,10 +144,10 @@ array-borrow-prefix-stand-ins : tie.Need-array-borrow-prefix-stand-ins
 array-borrow-prefix-stand-ins c = few (c .before .before .before .before .before .before .before .before .before .before .before .before .before .before .before .before .before .before .before .before)
 
 slice-aggregate-rebuild-2 : tie.Need-slice-aggregate-rebuild-2
-slice-aggregate-rebuild-2 c = sym (lent-long capacity _ (few (c .before .before .before .before .before .before .before .before .before .before .before .before .before .before .before .before .before .before .before .before .before)))
+slice-aggregate-rebuild-2 c = sym (lent-long mostNodes _ (few (c .before .before .before .before .before .before .before .before .before .before .before .before .before .before .before .before .before .before .before .before .before)))
 
 rebuild-requires : tie.Need-rebuild-requires
-rebuild-requires c κs = let st = c .before .before .before .before .before .before .before .before .before .before .before .before .before .before .before .before .before .before .before .before .before in (st .pre .0, (length-take-le _ _ (fates-long (c .before .before .before .before .before .before .before)), lent-long capacity _ (few st)))
+rebuild-requires c κs = let st = c .before .before .before .before .before .before .before .before .before .before .before .before .before .before .before .before .before .before .before .before .before in (st .pre .0, (length-take-le _ _ (fates-long (c .before .before .before .before .before .before .before)), lent-long mostNodes _ (few st)))
 
 sub-from-2 : tie.Need-sub-from-2
 sub-from-2 c = omega (arith, some (c .before .before .before .before .before .before .before .before .before .before .before .before .before .before .before .before .before .before .before .before .before .before .before .before .before .before .before))
