@@ -137,9 +137,9 @@ press-limit : (e : Edition) {last first : ℕ} → beside (pressRecords e) last 
 press-limit e {last} {first} q =
     let (some, few, over) = told (pressRecords e) last first q in
     record {
-      takes = λ how. limits (plan e how) last .0 few .0;
-      fills = λ how. limits (plan e how) last .0 few .1 some;
-      turns-away = λ how. limits (plan e how) first .1 over;
+      takes = λ how low. limits (plan e how low) last .0 few .0;
+      fills = λ how low. limits (plan e how low) last .0 few .1 some;
+      turns-away = λ how low. limits (plan e how low) first .1 over;
     }
 
 replay-limit : (e : Edition) {last first : ℕ} → beside (replayRecords e) last first ≡ true → ReplayLimit e last first

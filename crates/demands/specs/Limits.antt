@@ -13,6 +13,7 @@ use Rattle.sheet.specs.Fields.{sheetBytes, ruleLines, ruleLine}
 use Rattle.replay_spec.specs.Slots.{Slot}
 use Rattle.replay_spec.specs.Replay as Replay
 use Rattle.press_spec.specs.declared.Recycling.{Recycling}
+use Rattle.press_spec.specs.declared.Lowering.{Lowering}
 use Rattle.press_spec.specs.declared.Plan.{Plan}
 use Rattle.press_spec.specs.Plans.{plan}
 use Rattle.press_spec.specs.Press as Press
@@ -85,9 +86,9 @@ Limits =
 
 -- whatever is chosen
 pub record PressLimit (e : Edition) (last first : ℕ) : Type 0 where
-  pub takes : (how : Recycling) → PressTakes (plan e how) last
-  pub fills : (how : Recycling) → PressFills (plan e how) last
-  pub turns-away : (how : Recycling) → PressTurnsAway (plan e how) first
+  pub takes : (how : Recycling) (low : Lowering) → PressTakes (plan e how low) last
+  pub fills : (how : Recycling) (low : Lowering) → PressFills (plan e how low) last
+  pub turns-away : (how : Recycling) (low : Lowering) → PressTurnsAway (plan e how low) first
 
 pub record ReplayLimit (e : Edition) (last first : ℕ) : Type 0 where
   pub takes : ReplayTakes e last

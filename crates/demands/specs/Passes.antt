@@ -1,5 +1,5 @@
 -- What each pass makes of a proper sheet. A statement that names no edition and no choice holds for all of them.
-use Prim.Native.Nat.{ℕ, _<_}
+use Prim.Native.Nat.{ℕ, suc, _<_, _≤_}
 use mathlib.Core.Path.{_≡_}
 use mathlib.Core.Bool.{true, false}
 use mathlib.Core.Logic.{_⊎_}
@@ -7,17 +7,23 @@ use mathlib.Core.List.{List}
 use lib.ListN.{length, getD}
 use Rattle.clause.specs.Clauses.{Literal, Literals, none, holds}
 use Rattle.sheet.specs.declared.edition.Edition.{Edition}
-use Rattle.sheet.specs.Editions.{pressRecords}
+use Rattle.sheet.specs.Editions.{variables, pressRecords}
 use Rattle.sheet.specs.Records.{step, Record, clause, nodeAt}
-use Rattle.sheet.specs.Counts.{nodesOf}
+use Rattle.sheet.specs.Counts.{nodesOf, stepsOf}
 use Rattle.sheet.specs.Proper.{conclusionOf, Proper}
+use Rattle.press_spec.specs.declared.Recycling.{Recycling}
 use Rattle.press_spec.specs.declared.Recycling.the-variants.{Intersection}
+use Rattle.press_spec.specs.declared.Lowering.{Lowering}
+use Rattle.press_spec.specs.declared.Lowering.the-variants.{Nothing}
 use Rattle.press_spec.specs.declared.Plan.{Plan}
+use Rattle.press_spec.specs.Plans as Plans
 use Rattle.press_spec.specs.Links.{links, sink}
 use Rattle.press_spec.specs.Trim.{trim, Reaches}
 use Rattle.press_spec.specs.Recycle.{Reach, unreached, reached, cutLeft, cutOf, Hands}
-use Rattle.press_spec.specs.Rebuild.{standing}
-use Rattle.press_spec.specs.Press.{conclusion, reaches, recycled, chosenFit, pressedFrom, pressed}
+use Rattle.press_spec.specs.Rebuild.{standIn, standing, Ended}
+use Rattle.press_spec.specs.Lower.{lowered, unitConcludes, returnOf, Back}
+use Rattle.press_spec.specs.Units.{unitsLow, unitsBuilt}
+use Rattle.press_spec.specs.Press.{conclusion, reaches, recycled, shortened, chosenFit, pressedFrom, pressed}
 
 -- "Keep what the sink reaches through parents": of every proper sheet the trim has 1 for each node that the sink reaches, and 0 for each other
 abbrev pub TrimKeeps : Type 0
@@ -74,3 +80,30 @@ NamedTwice =
     → nodeAt (nodesOf rs) n ≡ step p m m c
     → getD (found plan rs) n unreached ≡ reached S
     → cutOf p S ≡ cutLeft
+
+-- ---- Lowering.
+
+-- No choice of lowering leaves more resolution steps than none does.
+abbrev pub NoMoreSteps : Type 0
+NoMoreSteps =
+    (e : Edition) (how : Recycling) (low : Lowering) (sheet rules : List ℕ) (rs : List Record)
+    → Proper e (pressRecords e) false rules sheet rs
+    → stepsOf (pressed (Plans.plan e how low) (nodesOf rs)) ≤ stepsOf (pressed (Plans.plan e how Nothing) (nodesOf rs))
+
+-- what step 4 leaves
+abbrev pub four : Plan → List Record → Ended
+four plan rs = shortened (chosenFit plan (nodesOf rs)) (conclusion (nodesOf rs)) (nodesOf rs)
+
+-- "Else if the rebuilt unit lacks l, that unit becomes the conclusion": whichever are back already, this never comes up, since no rebuilt unit lacks its
+-- literal.
+abbrev pub NoUnitConcludes : Type 0
+NoUnitConcludes =
+    (plan : Plan) (sheet rules : List ℕ) (rs : List Record) (n : ℕ) (l : Literal) (t : Ended)
+    → Proper (plan .edition) (pressRecords (plan .edition)) false rules sheet rs
+    → let v = variables (plan .edition) in
+    let low = unitsLow v (four plan rs) in
+    let b = unitsBuilt v (four plan rs) in
+    Back low b (four plan rs .last) (suc n) t
+    → low n ≡ lowered l
+    → returnOf l (clause (nodeAt (t .nodes) (standIn b n))) (clause (nodeAt (t .nodes) (t .last))) ≡ unitConcludes
+    → ⊥

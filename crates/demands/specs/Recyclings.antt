@@ -7,6 +7,7 @@ use Rattle.sheet.specs.declared.edition.Edition.the-variants.{Narrow}
 use Rattle.sheet.specs.Records.{given, step, Record, node, drop}
 use Rattle.sheet.specs.Fields.{sheetBytes}
 use Rattle.press_spec.specs.declared.Recycling.the-variants.{Reset, Intersection}
+use Rattle.press_spec.specs.declared.Lowering.the-variants.{Nothing}
 use Rattle.press_spec.specs.Plans.{plan}
 use Rattle.demands.specs.Cases.{Case, accepts, allRight}
 
@@ -302,18 +303,18 @@ twiceAfterIntersected =
 
 unfoldable pub recyclings : List Case
 recyclings =
-    accepts (plan Narrow Reset) allAllowRules allAllow (0 ∷ 0 ∷ 15 ∷ 8 ∷ 4 ∷ 4 ∷ 4 ∷ []) (sheetBytes Narrow allAllowReset) (1 ∷ 1 ∷ 1 ∷ 1 ∷ [])
-    ∷ accepts (plan Narrow Intersection) allAllowRules allAllow (0 ∷ 0 ∷ 13 ∷ 7 ∷ 3 ∷ 4 ∷ 4 ∷ []) (sheetBytes Narrow allAllowIntersected) (1 ∷ 1 ∷ 1 ∷ 1 ∷ [])
-    ∷ accepts (plan Narrow Reset) resetShorterRules resetShorter (0 ∷ 4 ∷ 5 ∷ 3 ∷ 1 ∷ 3 ∷ 2 ∷ []) (sheetBytes Narrow resetShorterReset) (0 ∷ 1 ∷ 0 ∷ 0 ∷ 1 ∷ 0 ∷ [])
-    ∷ accepts (plan Narrow Intersection) resetShorterRules resetShorter (0 ∷ 4 ∷ 9 ∷ 5 ∷ 2 ∷ 4 ∷ 3 ∷ []) (sheetBytes Narrow resetShorterIntersected) (1 ∷ 1 ∷ 1 ∷ 0 ∷ 0 ∷ 0 ∷ [])
-    ∷ accepts (plan Narrow Reset) keepsCommonRules keepsCommon (0 ∷ 4 ∷ 19 ∷ 10 ∷ 5 ∷ 4 ∷ 5 ∷ []) (sheetBytes Narrow keepsCommonReset) (1 ∷ 1 ∷ 1 ∷ 1 ∷ 1 ∷ [])
-    ∷ accepts (plan Narrow Intersection) keepsCommonRules keepsCommon (0 ∷ 4 ∷ 15 ∷ 8 ∷ 4 ∷ 4 ∷ 4 ∷ []) (sheetBytes Narrow keepsCommonIntersected) (1 ∷ 0 ∷ 1 ∷ 1 ∷ 1 ∷ [])
-    ∷ accepts (plan Narrow Reset) cutUseRules cutUse (0 ∷ 0 ∷ 15 ∷ 8 ∷ 4 ∷ 4 ∷ 4 ∷ []) (sheetBytes Narrow cutUseReset) (1 ∷ 1 ∷ 1 ∷ 1 ∷ [])
-    ∷ accepts (plan Narrow Intersection) cutUseRules cutUse (0 ∷ 0 ∷ 9 ∷ 5 ∷ 2 ∷ 4 ∷ 3 ∷ []) (sheetBytes Narrow cutUseIntersected) (1 ∷ 0 ∷ 1 ∷ 1 ∷ [])
-    ∷ accepts (plan Narrow Reset) unreachedUseRules unreachedUse (0 ∷ 0 ∷ 15 ∷ 8 ∷ 4 ∷ 4 ∷ 4 ∷ []) (sheetBytes Narrow unreachedUseReset) (1 ∷ 1 ∷ 1 ∷ 1 ∷ [])
-    ∷ accepts (plan Narrow Intersection) unreachedUseRules unreachedUse (0 ∷ 0 ∷ 9 ∷ 5 ∷ 2 ∷ 4 ∷ 3 ∷ []) (sheetBytes Narrow unreachedUseIntersected) (1 ∷ 1 ∷ 0 ∷ 1 ∷ [])
-    ∷ accepts (plan Narrow Reset) twiceAfterRules twiceAfter (5 ∷ 3 ∷ 9 ∷ 5 ∷ 3 ∷ 3 ∷ 2 ∷ []) (sheetBytes Narrow twiceAfterReset) (1 ∷ 1 ∷ [])
-    ∷ accepts (plan Narrow Intersection) twiceAfterRules twiceAfter (4 ∷ 3 ∷ 1 ∷ 1 ∷ 0 ∷ 1 ∷ 1 ∷ []) (sheetBytes Narrow twiceAfterIntersected) (1 ∷ 0 ∷ [])
+    accepts (plan Narrow Reset Nothing) allAllowRules allAllow (0 ∷ 0 ∷ 15 ∷ 8 ∷ 4 ∷ 4 ∷ 4 ∷ []) (sheetBytes Narrow allAllowReset) (1 ∷ 1 ∷ 1 ∷ 1 ∷ [])
+    ∷ accepts (plan Narrow Intersection Nothing) allAllowRules allAllow (0 ∷ 0 ∷ 13 ∷ 7 ∷ 3 ∷ 4 ∷ 4 ∷ []) (sheetBytes Narrow allAllowIntersected) (1 ∷ 1 ∷ 1 ∷ 1 ∷ [])
+    ∷ accepts (plan Narrow Reset Nothing) resetShorterRules resetShorter (0 ∷ 4 ∷ 5 ∷ 3 ∷ 1 ∷ 3 ∷ 2 ∷ []) (sheetBytes Narrow resetShorterReset) (0 ∷ 1 ∷ 0 ∷ 0 ∷ 1 ∷ 0 ∷ [])
+    ∷ accepts (plan Narrow Intersection Nothing) resetShorterRules resetShorter (0 ∷ 4 ∷ 9 ∷ 5 ∷ 2 ∷ 4 ∷ 3 ∷ []) (sheetBytes Narrow resetShorterIntersected) (1 ∷ 1 ∷ 1 ∷ 0 ∷ 0 ∷ 0 ∷ [])
+    ∷ accepts (plan Narrow Reset Nothing) keepsCommonRules keepsCommon (0 ∷ 4 ∷ 19 ∷ 10 ∷ 5 ∷ 4 ∷ 5 ∷ []) (sheetBytes Narrow keepsCommonReset) (1 ∷ 1 ∷ 1 ∷ 1 ∷ 1 ∷ [])
+    ∷ accepts (plan Narrow Intersection Nothing) keepsCommonRules keepsCommon (0 ∷ 4 ∷ 15 ∷ 8 ∷ 4 ∷ 4 ∷ 4 ∷ []) (sheetBytes Narrow keepsCommonIntersected) (1 ∷ 0 ∷ 1 ∷ 1 ∷ 1 ∷ [])
+    ∷ accepts (plan Narrow Reset Nothing) cutUseRules cutUse (0 ∷ 0 ∷ 15 ∷ 8 ∷ 4 ∷ 4 ∷ 4 ∷ []) (sheetBytes Narrow cutUseReset) (1 ∷ 1 ∷ 1 ∷ 1 ∷ [])
+    ∷ accepts (plan Narrow Intersection Nothing) cutUseRules cutUse (0 ∷ 0 ∷ 9 ∷ 5 ∷ 2 ∷ 4 ∷ 3 ∷ []) (sheetBytes Narrow cutUseIntersected) (1 ∷ 0 ∷ 1 ∷ 1 ∷ [])
+    ∷ accepts (plan Narrow Reset Nothing) unreachedUseRules unreachedUse (0 ∷ 0 ∷ 15 ∷ 8 ∷ 4 ∷ 4 ∷ 4 ∷ []) (sheetBytes Narrow unreachedUseReset) (1 ∷ 1 ∷ 1 ∷ 1 ∷ [])
+    ∷ accepts (plan Narrow Intersection Nothing) unreachedUseRules unreachedUse (0 ∷ 0 ∷ 9 ∷ 5 ∷ 2 ∷ 4 ∷ 3 ∷ []) (sheetBytes Narrow unreachedUseIntersected) (1 ∷ 1 ∷ 0 ∷ 1 ∷ [])
+    ∷ accepts (plan Narrow Reset Nothing) twiceAfterRules twiceAfter (5 ∷ 3 ∷ 9 ∷ 5 ∷ 3 ∷ 3 ∷ 2 ∷ []) (sheetBytes Narrow twiceAfterReset) (1 ∷ 1 ∷ [])
+    ∷ accepts (plan Narrow Intersection Nothing) twiceAfterRules twiceAfter (4 ∷ 3 ∷ 1 ∷ 1 ∷ 0 ∷ 1 ∷ 1 ∷ []) (sheetBytes Narrow twiceAfterIntersected) (1 ∷ 0 ∷ [])
     ∷ []
 
 abbrev pub Recyclings : Type 0

@@ -7,6 +7,7 @@ use Rattle.sheet.specs.declared.edition.Edition.the-variants.{Narrow, Wide}
 use Rattle.sheet.specs.Records.{given, step, Record, node, drop}
 use Rattle.sheet.specs.Fields.{sheetBytes}
 use Rattle.press_spec.specs.declared.Recycling.{Recycling}
+use Rattle.press_spec.specs.declared.Lowering.the-variants.{Nothing}
 use Rattle.press_spec.specs.Plans.{plan}
 use Rattle.demands.specs.Cases.{Case, presses, replays, accepts, refuses, replayed, ruleTable, junk, clean, allRight}
 use Rattle.demands.specs.Starred.{loneRules, lone, lonePressed}
@@ -163,30 +164,30 @@ highBothWaysRules = literals (1 + 2 ^ 100) (2 ^ 100) ∷ []
 
 unfoldable pub wide : Recycling → List Case
 wide how =
-    accepts (plan Wide how) pivot127Rules pivot127 (0 ∷ 0 ∷ 5 ∷ 3 ∷ 1 ∷ 3 ∷ 2 ∷ []) (sheetBytes Wide pivot127Pressed) (1 ∷ 1 ∷ [])
-    ∷ accepts (plan Wide how) highIrregularRules highIrregular (0 ∷ 0 ∷ 9 ∷ 5 ∷ 2 ∷ 3 ∷ 3 ∷ []) (sheetBytes Wide highIrregularPressed) (1 ∷ 0 ∷ 1 ∷ 1 ∷ 0 ∷ [])
-    ∷ accepts (plan Wide how) highKeptRules highKept ((2 ^ 64 + 2 ^ 127) ∷ 0 ∷ 5 ∷ 3 ∷ 1 ∷ 3 ∷ 2 ∷ []) (sheetBytes Wide highKeptPressed) (1 ∷ 1 ∷ [])
-    ∷ accepts (plan Wide how) highOneWayRules highOneWay ((2 ^ 36) ∷ (2 ^ 100) ∷ 1 ∷ 1 ∷ 0 ∷ 1 ∷ 1 ∷ []) (sheetBytes Wide highOneWayPressed) (1 ∷ [])
-    ∷ accepts (plan Wide how) eitherEditionRules eitherEdition ((2 ^ 64 + 2 ^ 112 + 2 ^ 115) ∷ 0 ∷ 1 ∷ 1 ∷ 0 ∷ 1 ∷ 1 ∷ []) (sheetBytes Wide eitherEditionPressed) (0 ∷ 0 ∷ 0 ∷ 0 ∷ 1 ∷ [])
-    ∷ refuses (plan Wide how) pivot127Rules pivot128 8 2
+    accepts (plan Wide how Nothing) pivot127Rules pivot127 (0 ∷ 0 ∷ 5 ∷ 3 ∷ 1 ∷ 3 ∷ 2 ∷ []) (sheetBytes Wide pivot127Pressed) (1 ∷ 1 ∷ [])
+    ∷ accepts (plan Wide how Nothing) highIrregularRules highIrregular (0 ∷ 0 ∷ 9 ∷ 5 ∷ 2 ∷ 3 ∷ 3 ∷ []) (sheetBytes Wide highIrregularPressed) (1 ∷ 0 ∷ 1 ∷ 1 ∷ 0 ∷ [])
+    ∷ accepts (plan Wide how Nothing) highKeptRules highKept ((2 ^ 64 + 2 ^ 127) ∷ 0 ∷ 5 ∷ 3 ∷ 1 ∷ 3 ∷ 2 ∷ []) (sheetBytes Wide highKeptPressed) (1 ∷ 1 ∷ [])
+    ∷ accepts (plan Wide how Nothing) highOneWayRules highOneWay ((2 ^ 36) ∷ (2 ^ 100) ∷ 1 ∷ 1 ∷ 0 ∷ 1 ∷ 1 ∷ []) (sheetBytes Wide highOneWayPressed) (1 ∷ [])
+    ∷ accepts (plan Wide how Nothing) eitherEditionRules eitherEdition ((2 ^ 64 + 2 ^ 112 + 2 ^ 115) ∷ 0 ∷ 1 ∷ 1 ∷ 0 ∷ 1 ∷ 1 ∷ []) (sheetBytes Wide eitherEditionPressed) (0 ∷ 0 ∷ 0 ∷ 0 ∷ 1 ∷ [])
+    ∷ refuses (plan Wide how Nothing) pivot127Rules pivot128 8 2
     ∷ replayed Wide (sheetBytes Wide pivot128) pivot127Rules 3 (8 ∷ 2 ∷ [])
-    ∷ refuses (plan Wide how) highKeptRules highLost 12 2
+    ∷ refuses (plan Wide how Nothing) highKeptRules highLost 12 2
     ∷ replayed Wide (sheetBytes Wide highLost) highKeptRules 3 (12 ∷ 2 ∷ [])
-    ∷ refuses (plan Wide how) highKeptRules highAdded 18 2
+    ∷ refuses (plan Wide how Nothing) highKeptRules highAdded 18 2
     ∷ replayed Wide (sheetBytes Wide highAdded) highKeptRules 3 (18 ∷ 2 ∷ [])
-    ∷ refuses (plan Wide how) highKeptRules highMoved 12 2
+    ∷ refuses (plan Wide how Nothing) highKeptRules highMoved 12 2
     ∷ replayed Wide (sheetBytes Wide highMoved) highKeptRules 3 (12 ∷ 2 ∷ [])
-    ∷ refuses (plan Wide how) highGivenRules highGiven 14 0
+    ∷ refuses (plan Wide how Nothing) highGivenRules highGiven 14 0
     ∷ replayed Wide (sheetBytes Wide highGiven) highGivenRules 3 (14 ∷ 0 ∷ [])
-    ∷ refuses (plan Wide how) highBothWaysRules highBothWays 17 0
+    ∷ refuses (plan Wide how Nothing) highBothWaysRules highBothWays 17 0
     ∷ replayed Wide (sheetBytes Wide highBothWays) highBothWaysRules 3 (17 ∷ 0 ∷ [])
     ∷ replayed Wide (sheetBytes Wide pivot127Pressed) pivot127Rules 3 (0 ∷ 0 ∷ 3 ∷ 1 ∷ 3 ∷ [])
     ∷ replayed Wide (sheetBytes Wide pivot127Pressed) pivot127Rules 2 (15 ∷ 2 ∷ [])
     ∷ replayed Wide (sheetBytes Wide highIrregularPressed) highIrregularRules 3 (0 ∷ 0 ∷ 5 ∷ 2 ∷ 3 ∷ [])
     ∷ replayed Wide (sheetBytes Wide highIrregularPressed) highIrregularRules 2 (15 ∷ 2 ∷ [])
-    ∷ accepts (plan Wide how) loneRules lone (1 ∷ 0 ∷ 1 ∷ 1 ∷ 0 ∷ 1 ∷ 1 ∷ []) (sheetBytes Wide lonePressed) (1 ∷ [])
-    ∷ presses (plan Wide how) (sheetBytes Wide lone) (ruleTable Wide loneRules) 39 1 (5 ∷ 0 ∷ []) (junk 39) (junk 1)
-    ∷ presses (plan Wide how) (sheetBytes Wide highIrregular) (ruleTable Wide highIrregularRules) 679 5 (5 ∷ 0 ∷ []) (junk 679) (junk 5)
+    ∷ accepts (plan Wide how Nothing) loneRules lone (1 ∷ 0 ∷ 1 ∷ 1 ∷ 0 ∷ 1 ∷ 1 ∷ []) (sheetBytes Wide lonePressed) (1 ∷ [])
+    ∷ presses (plan Wide how Nothing) (sheetBytes Wide lone) (ruleTable Wide loneRules) 39 1 (5 ∷ 0 ∷ []) (junk 39) (junk 1)
+    ∷ presses (plan Wide how Nothing) (sheetBytes Wide highIrregular) (ruleTable Wide highIrregularRules) 679 5 (5 ∷ 0 ∷ []) (junk 679) (junk 5)
     ∷ replayed Wide (sheetBytes Wide eitherEdition) eitherEditionRules 5 ((2 ^ 64 + 2 ^ 112 + 2 ^ 115) ∷ 0 ∷ 3 ∷ 0 ∷ 3 ∷ [])
     ∷ replays Narrow (sheetBytes Wide eitherEdition) (ruleTable Wide eitherEditionRules) 5 (0 ∷ 0 ∷ 5 ∷ 0 ∷ 5 ∷ []) (clean 5)
     ∷ []
