@@ -15,17 +15,17 @@ use Rattle.c_report.specs.declared.named.Naming.the-variants.{Named, Unnamed}
 use Rattle.c_exports.specs.Calls.{pressing, toldPress, pressAs, pressBy, replaying, toldReplay, replayBy}
 
 -- the answer of a press, told, by the plan that the numbers name
-pub told-press : (e r : ℕ) (plan : Plan) (c : Call) (a : Answer) (out marks report report′ : List ℕ) (code : ℕ) (named : Naming)
-    → named ≡ planOf e r → named ≡ Named plan
+pub told-press : (e r l : ℕ) (plan : Plan) (c : Call) (a : Answer) (out marks report report′ : List ℕ) (code : ℕ) (named : Naming)
+    → named ≡ planOf e r l → named ≡ Named plan
     → outcome a out marks ≡ press plan c → (code ≡ pressCode a) × (report′ ≡ fill 0 (pressWords a) report)
-    → pressing code out marks report′ ≡ pressBy e r c report
+    → pressing code out marks report′ ≡ pressBy e r l c report
 unfolding pressBy pressAs toldPress
-told-press e r plan c a out marks report report′ code named q is o t = rw (← q, is, ← o, t .0, t .1)
+told-press e r l plan c a out marks report report′ code named q is o t = rw (← q, is, ← o, t .0, t .1)
 
-pub told-none : (e r : ℕ) (c : Call) (report : List ℕ) (code : ℕ) (named : Naming) → named ≡ planOf e r → named ≡ Unnamed code
-    → pressing code (c .out) (c .marks) report ≡ pressBy e r c report
+pub told-none : (e r l : ℕ) (c : Call) (report : List ℕ) (code : ℕ) (named : Naming) → named ≡ planOf e r l → named ≡ Unnamed code
+    → pressing code (c .out) (c .marks) report ≡ pressBy e r l c report
 unfolding pressBy pressAs
-told-none e r c report code named q is = rw (← q, is)
+told-none e r l c report code named q is = rw (← q, is)
 
 -- and that of a replay
 pub told-replay : (n : ℕ) (e : Edition) (sheet rules : List ℕ) (before after : List Slot) (a : ReplayAnswer) (report report′ : List ℕ) (code : ℕ) → names n ≡ true → e ≡ editionOf n

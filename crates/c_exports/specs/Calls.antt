@@ -29,9 +29,9 @@ unfoldable pub pressAs : Naming → Call → List ℕ → Pressing
 pressAs (Named plan) c report = toldPress (Press.press plan c) report
 pressAs (Unnamed code) c report = pressing code (c .out) (c .marks) report
 
--- by the numbers of the edition and the recycling
-unfoldable pub pressBy : ℕ → ℕ → Call → List ℕ → Pressing
-pressBy e r c report = pressAs (planOf e r) c report
+-- by the numbers of the edition, the recycling and the lowering
+unfoldable pub pressBy : ℕ → ℕ → ℕ → Call → List ℕ → Pressing
+pressBy e r l c report = pressAs (planOf e r l) c report
 
 pub record Replaying : Type 0 where
   pub code : ℕ

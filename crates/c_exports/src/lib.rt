@@ -1,6 +1,6 @@
 // The C interface: the press and the replay with numbers, slices and references only, as include/tempuquile.h declares them. `edition` is 0
-// for the narrow edition and 1 for the wide one, `recycling` 0 for the reset and 1 for the intersection; any other edition is answered 255, any
-// other recycling 254, and nothing is touched.
+// for the narrow edition and 1 for the wide one, `recycling` 0 for the reset and 1 for the intersection, `lowering` 0 for none and 1 for the
+// units; any other edition is answered 255, any other recycling 254, any other lowering 253, and nothing is touched.
 ghost use mathlib.Core.Path.{_≡_};
 ghost use Rattle.press_spec.specs.Press.{call};
 ghost use Rattle.replay_slots.specs.Said.{rowOf};
@@ -15,15 +15,16 @@ use replay_slots::Slot;
 pub extern "C" fn tempuquile_press(
     edition: u32,
     recycling: u32,
+    lowering: u32,
     sheet: &[u8],
     rules: &[u8],
     out: &mut [u8],
     marks: &mut [u8],
     report: &mut [u64],
 ) -> u32
-    ensures { λ r. ⌜ pressing r (now (out .exit)) (now (marks .exit)) (now (report .exit)) ≡ pressBy edition recycling (call (now (sheet .entry)) (now (rules .entry)) (now (out .entry)) (now (marks .entry))) (now (report .entry)) ⌝ }
+    ensures { λ r. ⌜ pressing r (now (out .exit)) (now (marks .exit)) (now (report .exit)) ≡ pressBy edition recycling lowering (call (now (sheet .entry)) (now (rules .entry)) (now (out .entry)) (now (marks .entry))) (now (report .entry)) ⌝ }
 {
-    let naming = named::plan_of(edition, recycling);
+    let naming = named::plan_of(edition, recycling, lowering);
     match naming {
         Naming::Named(plan) => {
             c_report::tell_press(press::press(plan, sheet, rules, out, marks), report)

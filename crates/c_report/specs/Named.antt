@@ -6,16 +6,21 @@ use Rattle.sheet.specs.declared.edition.Edition.{Edition}
 use Rattle.sheet.specs.declared.edition.Edition.the-variants.{Narrow, Wide}
 use Rattle.press_spec.specs.declared.Recycling.{Recycling}
 use Rattle.press_spec.specs.declared.Recycling.the-variants.{Reset, Intersection}
+use Rattle.press_spec.specs.declared.Lowering.{Lowering}
+use Rattle.press_spec.specs.declared.Lowering.the-variants.{Nothing, Units}
 use Rattle.press_spec.specs.Plans.{plan}
 use Rattle.c_report.specs.declared.named.Naming.{Naming}
 use Rattle.c_report.specs.declared.named.Naming.the-variants.{Named, Unnamed}
 
--- what is answered to a number that names no edition, and to one that names no recycling
+-- what is answered to a number that names no edition, to one that names no recycling, and to one that names no lowering
 abbrev pub noEdition : ℕ
 noEdition = 255
 
 abbrev pub noRecycling : ℕ
 noRecycling = 254
+
+abbrev pub noLowering : ℕ
+noLowering = 253
 
 -- 0 and 1 name one, other numbers none
 unfoldable pub names : ℕ → Bool
@@ -27,6 +32,12 @@ editionOf n = cond (eqb n 0) Narrow Wide
 unfoldable pub recyclingOf : ℕ → Recycling
 recyclingOf n = cond (eqb n 0) Reset Intersection
 
--- the edition is looked at first
-unfoldable pub planOf : ℕ → ℕ → Naming
-planOf e r = cond (names e) (cond (names r) (Named (plan (editionOf e) (recyclingOf r))) (Unnamed noRecycling)) (Unnamed noEdition)
+unfoldable pub loweringOf : ℕ → Lowering
+loweringOf n = cond (eqb n 0) Nothing Units
+
+-- the edition is looked at first, then the recycling, then the lowering
+unfoldable pub planOf : ℕ → ℕ → ℕ → Naming
+planOf e r l =
+    cond (names e)
+    (cond (names r) (cond (names l) (Named (plan (editionOf e) (recyclingOf r) (loweringOf l))) (Unnamed noLowering)) (Unnamed noRecycling))
+    (Unnamed noEdition)

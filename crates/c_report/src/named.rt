@@ -1,14 +1,17 @@
 // What a caller names by numbers: the edition of a replay, the plan of a press.
 ghost use mathlib.Core.Path.{_≡_};
-ghost use Rattle.c_report.specs.Named.{names, editionOf, recyclingOf, planOf};
+ghost use Rattle.c_report.specs.Named.{names, editionOf, recyclingOf, loweringOf, planOf};
+use press_spec::Lowering;
 use press_spec::Plan;
 use press_spec::Recycling;
 use sheet::edition::Edition;
 
-// What is answered to a number that names no edition, and to one that names no recycling.
+// What is answered to a number that names no edition, to one that names no recycling, and to one that names no lowering.
 pub const NO_EDITION: u32 = 255;
 
 pub const NO_RECYCLING: u32 = 254;
+
+pub const NO_LOWERING: u32 = 253;
 
 pub fn names_one(number: u32) -> bool
     ensures { λ b. ⌜ b ≡ names number ⌝ }
@@ -35,23 +38,36 @@ fn recycling_of(number: u32) -> Recycling
     Recycling::Intersection
 }
 
+fn lowering_of(number: u32) -> Lowering
+    ensures { λ l. ⌜ l ≡ loweringOf number ⌝ }
+{
+    if number == 0 {
+        return Lowering::Nothing;
+    }
+    Lowering::Units
+}
+
 // A plan, or what is answered to numbers that name none.
 pub enum Naming {
     Named(Plan),
     Unnamed(u32),
 }
 
-// The edition is looked at first.
-pub fn plan_of(edition: u32, recycling: u32) -> Naming
-    ensures { λ r. ⌜ r ≡ planOf edition recycling ⌝ }
+// The edition is looked at first, then the recycling, then the lowering.
+pub fn plan_of(edition: u32, recycling: u32, lowering: u32) -> Naming
+    ensures { λ r. ⌜ r ≡ planOf edition recycling lowering ⌝ }
 {
     if names_one(edition) {
         if names_one(recycling) {
-            let plan = Plan {
-                edition: edition_of(edition),
-                recycling: recycling_of(recycling),
-            };
-            return Naming::Named(plan);
+            if names_one(lowering) {
+                let plan = Plan {
+                    edition: edition_of(edition),
+                    recycling: recycling_of(recycling),
+                    lowering: lowering_of(lowering),
+                };
+                return Naming::Named(plan);
+            }
+            return Naming::Unnamed(NO_LOWERING);
         }
         return Naming::Unnamed(NO_RECYCLING);
     }

@@ -30,11 +30,11 @@ same-length-3 c = search needs
 
 returns : tie.Need-returns
 returns c =
-    told-press _ _ _ _ _ _ _ _ _ _ _ (c .before .before .before .before .before .before .before .before .before .before .before .before .before .before .plan-of .ensures) (c .before .before .before .before .before .before .before .before .before .before .before .before .naming .given .1) (c .before .before .before .before .before .before .before .before .press .ensures) (c .before .before .tell-press .ensures)
+    told-press _ _ _ _ _ _ _ _ _ _ _ _ (c .before .before .before .before .before .before .before .before .before .before .before .before .before .before .plan-of .ensures) (c .before .before .before .before .before .before .before .before .before .before .before .before .naming .given .1) (c .before .before .before .before .before .before .before .before .press .ensures) (c .before .before .tell-press .ensures)
 
 returns-2 : tie.Need-returns-2
 returns-2 c = let a = c .before .before .before .before .before .before .before .before .before .args in
-    told-none _ _ (call (a .sheet .now) (a .rules .now) (a .out .now) (a .marks .now)) _ _ _ (c .before .before .before .plan-of .ensures) (c .before .naming2 .given .1)
+    told-none _ _ _ (call (a .sheet .now) (a .rules .now) (a .out .now) (a .marks .now)) _ _ _ (c .before .before .before .plan-of .ensures) (c .before .naming2 .given .1)
 
 pub tempuquile-press-spec : {M : Type 1} → statement M
 tempuquile-press-spec =
