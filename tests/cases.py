@@ -343,8 +343,8 @@ def draw(t, seed, count):
 
 
 def inputs(words):
-    """The sheet and the rule table of a case's first line, which come after the edition, and of a press after the recycling."""
-    start = 3 if words[0] == "press" else 2
+    """The sheet and the rule table of a case's first line, which come after the edition, and of a press after the recycling and the lowering."""
+    start = 4 if words[0] == "press" else 2
     return [bytes.fromhex(w) if w != "-" else b"" for w in words[start : start + 2]]
 
 

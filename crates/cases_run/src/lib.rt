@@ -2,23 +2,25 @@
 // Each program over it is one call, with a stream of its own. No contract can say what is read or printed: these functions are proved
 // safe and ending, and what they print is compared.
 //
-// A case is fifteen bytes, then its sheet and its rule table. Numbers are little-endian.
+// A case is sixteen bytes, then its sheet and its rule table. Numbers are little-endian.
 //
 //   byte 0   what is run: 0 the press, 1 the replay, 2 the replay, shown record by record
 //   byte 1   the edition: 0 narrow, 1 wide
 //   byte 2   the recycling of a press: 0 the reset, 1 the intersection; zero for the replay
-//   3-4      bytes of the sheet, at most 49,176
-//   5-6      bytes of the rule table, at most 32,800
-//   7-8      bytes of room for the press, at most 49,188; slots for the replay
-//   9-10     bytes of marks for the press, at most 1,084; zero for the replay
-//   11-12    bytes of the sheet that follow; the rest of it is zero
-//   13-14    bytes of the rule table that follow; the rest of it is zero
+//   byte 3   the lowering of a press: 0 nothing, 1 the units; zero for the replay
+//   4-5      bytes of the sheet, at most 49,176
+//   6-7      bytes of the rule table, at most 32,800
+//   8-9      bytes of room for the press, at most 49,188; slots for the replay
+//   10-11    bytes of marks for the press, at most 1,084; zero for the replay
+//   12-13    bytes of the sheet that follow; the rest of it is zero
+//   14-15    bytes of the rule table that follow; the rest of it is zero
 //
 // Of a length beyond its limit the limit is taken. The stream ends where no whole case follows.
 
 mod press_case;
 mod replay_case;
 
+use press_spec::Lowering;
 use press_spec::Plan;
 use press_spec::Recycling;
 use sheet::edition::Edition;
@@ -34,12 +36,13 @@ const SHEET: usize = narrow::RECORD_BYTES * (narrow::REPLAY_RECORDS + 2);
 const RULES: usize = wide::LINE_BYTES * (TABLE_LINES + 1);
 
 // The bytes before those of the sheet.
-const HEADER: usize = 15;
+const HEADER: usize = 16;
 
 struct Header {
     kind: u8,
     edition: Edition,
     recycling: Recycling,
+    lowering: Lowering,
     sheet: usize,
     rules: usize,
     room: usize,
@@ -64,17 +67,26 @@ fn recycling_of(byte: u8) -> Recycling {
     }
 }
 
+fn lowering_of(byte: u8) -> Lowering {
+    if byte == 0 {
+        Lowering::Nothing
+    } else {
+        Lowering::Units
+    }
+}
+
 fn header_of(bytes: &[u8; HEADER]) -> Header {
     Header {
         kind: bytes[0],
         edition: edition_of(bytes[1]),
         recycling: recycling_of(bytes[2]),
-        sheet: base::wide(base::u16_at(bytes, 3)),
-        rules: base::wide(base::u16_at(bytes, 5)),
-        room: base::wide(base::u16_at(bytes, 7)),
-        marks: base::wide(base::u16_at(bytes, 9)),
-        sheet_follows: base::wide(base::u16_at(bytes, 11)),
-        rules_follows: base::wide(base::u16_at(bytes, 13)),
+        lowering: lowering_of(bytes[3]),
+        sheet: base::wide(base::u16_at(bytes, 4)),
+        rules: base::wide(base::u16_at(bytes, 6)),
+        room: base::wide(base::u16_at(bytes, 8)),
+        marks: base::wide(base::u16_at(bytes, 10)),
+        sheet_follows: base::wide(base::u16_at(bytes, 12)),
+        rules_follows: base::wide(base::u16_at(bytes, 14)),
     }
 }
 
@@ -92,13 +104,22 @@ fn print_press(recycling: Recycling) {
     }
 }
 
+fn print_lowering(lowering: Lowering) {
+    match lowering {
+        Lowering::Nothing => text::print(b" nothing"),
+        Lowering::Units => text::print(b" units"),
+    }
+}
+
 fn print_header(number: u64, head: Header) {
     let edition = head.edition;
     text::print_number(b"case ", number);
     print_edition(edition);
     if head.kind == 0 {
         let recycling = head.recycling;
+        let lowering = head.lowering;
         print_press(recycling);
+        print_lowering(lowering);
     } else {
         text::print(b" replay");
     }
@@ -113,7 +134,12 @@ fn run_inputs(head: Header, sheet: &[u8], rules: &[u8]) {
     let edition = head.edition;
     if head.kind == 0 {
         let recycling = head.recycling;
-        let plan = Plan { edition, recycling };
+        let lowering = head.lowering;
+        let plan = Plan {
+            edition,
+            recycling,
+            lowering,
+        };
         press_case::run(plan, sheet, rules, head.room, head.marks);
         return;
     }

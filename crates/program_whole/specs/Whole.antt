@@ -6,14 +6,15 @@ use lib.ListN.{length, take}
 use Rattle.sheet.specs.declared.edition.Edition.the-variants.{Narrow}
 use Rattle.sheet.specs.Editions.{recordBytes}
 use Rattle.press_spec.specs.declared.Recycling.the-variants.{Intersection}
+use Rattle.press_spec.specs.declared.Lowering.the-variants.{Nothing}
 use Rattle.press_spec.specs.declared.Plan.{Plan}
 use Rattle.press_spec.specs.Plans.{plan}
 use Rattle.press.specs.declared.PressAnswer.{PressAnswer}
 use Rattle.press.specs.declared.PressAnswer.the-variants.{Accepted, Refused}
 
--- "The program stays with 64 variables", and "the program takes the new one"
+-- "The program stays with 64 variables", "the program takes the new one", and "the program goes on without" lowering
 abbrev pub programPlan : Plan
-programPlan = plan Narrow Intersection
+programPlan = plan Narrow Intersection Nothing
 
 -- s is a file of so many bytes, all of them at the start of the buffer if they fit
 abbrev pub Starts : List ℕ → ℕ → List ℕ → Type 0

@@ -9,6 +9,7 @@ ghost use Rattle.press.specs.Said.{said};
 ghost use Rattle.press_spec.specs.Press.{call, outcome, press};
 ghost use Rattle.program_whole.specs.Whole.{programPlan, Starts, Fits};
 use press::PressAnswer;
+use press_spec::Lowering;
 use press_spec::Plan;
 use press_spec::Recycling;
 use press_write::Pressed;
@@ -20,6 +21,7 @@ use sheet::edition::Edition;
 pub const PLAN: Plan = Plan {
     edition: Edition::Narrow,
     recycling: Recycling::Intersection,
+    lowering: Lowering::Nothing,
 };
 
 // Presses two files of the narrow edition, of which the starts are at hand: the answer is that of the whole files.
