@@ -11,8 +11,8 @@ int main(void) {
     };
     uint8_t out[48 * 3 - 24], marks[2];
     uint64_t report[TEMPUQUILE_PRESS_WORDS];
-    uint32_t code = tempuquile_press(TEMPUQUILE_NARROW, TEMPUQUILE_INTERSECTION, sheet, sizeof sheet, rules, sizeof rules, out, sizeof out,
-                                     marks, sizeof marks, report, TEMPUQUILE_PRESS_WORDS);
+    uint32_t code = tempuquile_press(TEMPUQUILE_NARROW, TEMPUQUILE_INTERSECTION, TEMPUQUILE_NOTHING_LOWERED, sheet, sizeof sheet, rules,
+                                     sizeof rules, out, sizeof out, marks, sizeof marks, report, TEMPUQUILE_PRESS_WORDS);
     if (code != TEMPUQUILE_OK) {
         printf("refused %u at %u\n", (unsigned)code, (unsigned)report[TEMPUQUILE_PRESS_RECORD]);
         return 1;

@@ -7,9 +7,11 @@
  *
  * Every call names an edition: the narrow one has 64 variables, records of 24 bytes and rule lines of 16, and the wide one 128, 40
  * and 32. A press also names how it recycles pivots: at a node with several uses, either nothing is kept of what they allow (the reset),
- * or what all of them allow (the intersection, which mostly presses harder and which the program takes). A number that names no edition
- * is answered TEMPUQUILE_NO_EDITION, and one that names no recycling TEMPUQUILE_NO_RECYCLING; the edition is looked at first. Neither is a
- * refusal: nothing is touched then, not even `report`.
+ * or what all of them allow (the intersection, which mostly presses harder and which the program takes). And it names what is lowered
+ * after that: nothing, as by the program, or the units, which are clauses of one literal that several steps use; they are then
+ * resolved with once, at the end, which makes fewer steps and now and then a higher peak. A number that names no edition is answered
+ * TEMPUQUILE_NO_EDITION, one that names no recycling TEMPUQUILE_NO_RECYCLING, and one that names no lowering TEMPUQUILE_NO_LOWERING; they
+ * are looked at in this order. None of them is a refusal: nothing is touched then, not even `report`.
  *
  * Otherwise both functions answer 0, or the number of the refusal. Both fill `report` with the words listed below, as many as fit in
  * `report_len`; words beyond the list are untouched. On a refusal word 0 is the number of the record refused and the others are 0.
@@ -34,6 +36,11 @@ extern "C" {
 #define TEMPUQUILE_RESET 0
 #define TEMPUQUILE_INTERSECTION 1
 #define TEMPUQUILE_NO_RECYCLING 254
+
+/* What can be lowered, and what a press answers to any other number. */
+#define TEMPUQUILE_NOTHING_LOWERED 0
+#define TEMPUQUILE_UNITS_LOWERED 1
+#define TEMPUQUILE_NO_LOWERING 253
 
 /*
  * The answer: 0, or the first of these that applies. 1 to 5 report record 0, 16 the count of records. Where two numbers are given, as
@@ -115,14 +122,14 @@ TEMPUQUILE_HOLDS(sizeof(size_t) == 8);
 #undef TEMPUQUILE_ALIGNED
 
 /*
- * Presses `sheet` against the rule table `rules`, both of `edition`, by `recycling`.
+ * Presses `sheet` against the rule table `rules`, both of `edition`, by `recycling` and `lowering`.
  *
  * Accepted: `out` starts with the pressed sheet, of the same edition, 24 or 40 bytes for each of the records reported, and is untouched
  * beyond; `marks` starts with 1 or 0 for each rule line, and is untouched beyond. Refused: neither is changed.
  */
-uint32_t tempuquile_press(uint32_t edition, uint32_t recycling, const uint8_t *sheet, size_t sheet_len, const uint8_t *rules,
-                          size_t rules_len, uint8_t *out, size_t out_len, uint8_t *marks, size_t marks_len, uint64_t *report,
-                          size_t report_len);
+uint32_t tempuquile_press(uint32_t edition, uint32_t recycling, uint32_t lowering, const uint8_t *sheet, size_t sheet_len,
+                          const uint8_t *rules, size_t rules_len, uint8_t *out, size_t out_len, uint8_t *marks, size_t marks_len,
+                          uint64_t *report, size_t report_len);
 
 /*
  * Replays `sheet` against the rule table `rules`, both of `edition`, holding clauses in the row `slots`, of `slots_len` slots (not

@@ -4,7 +4,7 @@
 use crate::library::{self, numbers, Slot, PRESS_WORDS, REPLAY_WORDS};
 use crate::sheets::{self, Sheet};
 use reference::edition::Edition;
-use reference::plan::{Plan, Recycling};
+use reference::plan::Plan;
 use std::hint::black_box;
 use std::process::Command;
 use std::time::{Duration, Instant};
@@ -88,19 +88,24 @@ fn replay(side: Side, sheet: &Sheet, calls: u64) {
 }
 
 /// Makes so many calls of one side, for a tool that counts instructions.
-pub fn calls(side: &str, job: &str, recycling: Recycling, name: &str, calls: u64) -> Option<()> {
+pub fn calls(side: &str, job: &str, passes: Plan, name: &str, calls: u64) -> Option<()> {
     let (side, _) = SIDES.into_iter().find(|(_, word)| *word == side)?;
     let (job, _) = JOBS.into_iter().find(|(_, word)| *word == job)?;
-    call(side, job, &sheets::named(recycling, name)?, calls);
+    call(side, job, &sheets::named(passes, name)?, calls);
     Some(())
 }
 
-/// The tables of both editions, line by line.
-pub fn tables(recycling: Recycling, print: impl Fn(&str)) {
+/// The tables of both editions by these passes, line by line.
+pub fn tables(passes: Plan, print: impl Fn(&str)) {
     for edition in Edition::ALL {
-        print(&format!("{}, {}", edition.word(), recycling.word()));
-        tables_of(Plan { edition, recycling }, &print);
+        let [recycling, lowering] = words(passes);
+        print(&format!("{}, {recycling}, {lowering}", edition.word()));
+        tables_of(Plan { edition, ..passes }, &print);
     }
+}
+
+fn words(passes: Plan) -> [&'static str; 2] {
+    [passes.recycling.word(), passes.lowering.word()]
 }
 
 fn tables_of(plan: Plan, print: impl Fn(&str)) {
@@ -204,14 +209,14 @@ fn nanoseconds(job: Job, sheet: &Sheet) -> [f64; 2] {
 
 /// Instructions of one call: those of six calls less those of one, by five.
 fn instructions(side: &str, job: &str, sheet: &Sheet) -> f64 {
-    let recycling = sheet.plan.recycling.word();
+    let [recycling, lowering] = words(sheet.plan);
     let counted = |calls: &str| -> f64 {
         let program = std::env::current_exe().expect("this program has a name");
         let said = Command::new("valgrind")
             .args(["--tool=callgrind", "--callgrind-out-file=/dev/null"])
             .arg(program)
             .args(["calls", side, job, &sheet.name, calls])
-            .args(["--recycling", recycling])
+            .args(["--recycling", recycling, "--lowering", lowering])
             .output()
             .expect("valgrind is there");
         let said = String::from_utf8_lossy(&said.stderr).into_owned();

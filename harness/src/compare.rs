@@ -5,7 +5,7 @@ use crate::lent::Lent;
 use crate::library::{self, numbers, NO_EDITION, PRESS_WORDS, REPLAY_WORDS};
 use reference::cases::{draw, Case, Size};
 use reference::edition::Edition;
-use reference::plan::{Plan, Recycling};
+use reference::plan::{Lowering, Plan, Recycling};
 use reference::press::{press, Pressed};
 use reference::refusal::Refusal;
 use reference::replay::{replay, Replayed, Slot};
@@ -22,8 +22,9 @@ pub struct Count {
     pub refused: usize,
     /// How many of them named the wide edition.
     pub wide: usize,
-    /// How many of the presses that were accepted named the reset.
+    /// How many of the presses that were accepted named the reset, and the units.
     pub reset: usize,
+    pub units: usize,
 }
 
 /// The two words of a set, the variables under 64 in the first.
@@ -167,7 +168,7 @@ pub fn replay_alike(
 /// touched, the report neither.
 pub fn unnamed_press(
     rng: &mut Rng,
-    numbers: [u32; 2],
+    numbers: [u32; 3],
     answer: u32,
     sheet: &[u8],
     rules: &[u8],
@@ -247,6 +248,7 @@ pub fn case_alike(seed: u64, index: u64, count: &mut Count) -> Result<(), Differ
                     pressed_alike(&mut rng, plan.edition, &out, &rules, &done)?;
                     count.pressed += 1;
                     count.reset += usize::from(plan.recycling == Recycling::Reset);
+                    count.units += usize::from(plan.lowering == Lowering::Units);
                 }
             }
         }

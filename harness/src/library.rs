@@ -9,6 +9,7 @@ pub mod c {
         pub fn tempuquile_press(
             edition: u32,
             recycling: u32,
+            lowering: u32,
             sheet: *const u8,
             sheet_len: usize,
             rules: *const u8,
@@ -55,15 +56,23 @@ pub const NO_EDITION: u32 = 255;
 /// `TEMPUQUILE_NO_RECYCLING`: the answer to a number that names no recycling.
 pub const NO_RECYCLING: u32 = 254;
 
+/// `TEMPUQUILE_NO_LOWERING`: the answer to a number that names no lowering.
+pub const NO_LOWERING: u32 = 253;
+
 /// The numbers of a plan.
-pub fn numbers(plan: Plan) -> [u32; 2] {
-    [plan.edition.number(), plan.recycling.number()].map(u32::from)
+pub fn numbers(plan: Plan) -> [u32; 3] {
+    let Plan {
+        edition,
+        recycling,
+        lowering,
+    } = plan;
+    [edition.number(), recycling.number(), lowering.number()].map(u32::from)
 }
 
-/// Edition and recycling are numbers here, so that some that name none can be
-/// tried.
+/// Edition, recycling and lowering are numbers here, so that some that name none
+/// can be tried.
 pub fn press(
-    [edition, recycling]: [u32; 2],
+    [edition, recycling, lowering]: [u32; 3],
     sheet: &[u8],
     rules: &[u8],
     out: &mut [u8],
@@ -74,6 +83,7 @@ pub fn press(
         c::tempuquile_press(
             edition,
             recycling,
+            lowering,
             sheet.as_ptr(),
             sheet.len(),
             rules.as_ptr(),

@@ -2,27 +2,28 @@
 
 use harness::bench;
 use harness::compare::{case_alike, Count};
-use reference::plan::{Plan, Recycling};
+use reference::plan::{Lowering, Plan, Recycling};
 use std::process::ExitCode;
 use std::time::{SystemTime, UNIX_EPOCH};
 
 const USAGE: &str = "usage:
   harness compare [--seed S] [--count N]     a seed of its own, and 20000 cases, if none is given
-  harness bench [--recycling reset|intersection]     the program's, if none is named
-  harness calls library|reference press|replay SHEET N [--recycling reset|intersection]";
+  harness bench [PASSES]
+  harness calls library|reference press|replay SHEET N [PASSES]
+where PASSES are --recycling reset|intersection and --lowering nothing|units; the program's, if none is named";
 
 fn main() -> ExitCode {
     let words: Vec<String> = std::env::args().skip(1).collect();
     let words: Vec<&str> = words.iter().map(String::as_str).collect();
     let done = match words.as_slice() {
         ["compare", flags @ ..] => compare(flags),
-        ["bench", flags @ ..] => recycling(flags).map(|recycling| {
-            bench::tables(recycling, |line| println!("{line}"));
+        ["bench", flags @ ..] => passes(flags).map(|passes| {
+            bench::tables(passes, |line| println!("{line}"));
             true
         }),
-        ["calls", side, job, name, calls, flags @ ..] => recycling(flags)
+        ["calls", side, job, name, calls, flags @ ..] => passes(flags)
             .zip(calls.parse().ok())
-            .and_then(|(recycling, calls)| bench::calls(side, job, recycling, name, calls))
+            .and_then(|(passes, calls)| bench::calls(side, job, passes, name, calls))
             .map(|()| true),
         _ => None,
     };
@@ -36,12 +37,17 @@ fn main() -> ExitCode {
     }
 }
 
-fn recycling(flags: &[&str]) -> Option<Recycling> {
-    match flags {
-        [] => Some(Plan::PROGRAM.recycling),
-        ["--recycling", word] => Recycling::of_word(word),
-        _ => None,
+/// The passes named; none, if the flags don't read.
+fn passes(flags: &[&str]) -> Option<Plan> {
+    let mut plan = Plan::PROGRAM;
+    for flag in flags.chunks(2) {
+        match flag {
+            ["--recycling", word] => plan.recycling = Recycling::of_word(word)?,
+            ["--lowering", word] => plan.lowering = Lowering::of_word(word)?,
+            _ => return None,
+        }
     }
+    Some(plan)
 }
 
 /// Whether all is alike; none, if the flags don't read.
@@ -63,8 +69,8 @@ fn compare(flags: &[&str]) -> Option<bool> {
         }
     }
     println!(
-        "seed {seed}: {} pressed, {} of them by the reset, and replayed at the peak and one below, {} replayed, {} refused; {} wide",
-        seen.pressed, seen.reset, seen.replayed, seen.refused, seen.wide
+        "seed {seed}: {} pressed, {} of them by the reset and {} with the units lowered, and replayed at the peak and one below, {} replayed, {} refused; {} wide",
+        seen.pressed, seen.reset, seen.units, seen.replayed, seen.refused, seen.wide
     );
     println!("{count} compared, {different} different");
     Some(different == 0)

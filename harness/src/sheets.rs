@@ -4,7 +4,7 @@ use reference::cases::draft::Draft;
 use reference::cases::stages::{ladder, stages, Givens};
 use reference::clause::{Clause, Literal};
 use reference::edition::Edition;
-use reference::plan::{Plan, Recycling};
+use reference::plan::Plan;
 use reference::press::{press, Pressed};
 use reference::rng::Rng;
 use reference::sheets::starred;
@@ -66,13 +66,14 @@ const SHAPES: [(&str, Shape); 5] = [
 ];
 
 /// The one of this name: a small one, or a shape, as `shared-64` at a size, or
-/// as long as a sheet can be. `wide-shared-64` is in the wide edition.
-pub fn named(recycling: Recycling, name: &str) -> Option<Sheet> {
+/// as long as a sheet can be. `wide-shared-64` is in the wide edition. Of the plan
+/// only the passes count.
+pub fn named(passes: Plan, name: &str) -> Option<Sheet> {
     let (edition, rest) = match name.strip_prefix("wide-") {
         Some(rest) => (Edition::Wide, rest),
         None => (Edition::Narrow, name),
     };
-    let plan = Plan { edition, recycling };
+    let plan = Plan { edition, ..passes };
     if rest == "pair" {
         let pair = starred::pair().in_edition(edition);
         return Some(Sheet::new(plan, name, pair.bytes()));
@@ -98,18 +99,12 @@ pub fn all(plan: Plan) -> Vec<Sheet> {
     let shapes = SHAPES.iter().map(|(name, _)| *name);
     let names = ["pair"].into_iter().chain(shapes);
     let name = |name| format!("{}{name}", prefix(plan.edition));
-    names
-        .flat_map(|word| named(plan.recycling, &name(word)))
-        .collect()
+    names.flat_map(|word| named(plan, &name(word))).collect()
 }
 
 /// The same of both editions, by the program's passes.
 pub fn of_both() -> Vec<Sheet> {
-    let plan = |edition| Plan {
-        edition,
-        ..Plan::PROGRAM
-    };
-    let plans = Edition::ALL.into_iter().map(plan);
+    let plans = Edition::ALL.into_iter().map(Plan::program_in);
     plans.flat_map(all).collect()
 }
 
@@ -118,7 +113,7 @@ pub fn growing(plan: Plan) -> Vec<Vec<Sheet>> {
     let edition = plan.edition;
     let sizes = [16, 8, 4, 2, 1].map(|part| edition.press_records() / part);
     let at = |name: &str| sizes.map(|size| format!("{}{name}-{size}", prefix(edition)));
-    let named = |name: &String| named(plan.recycling, name);
+    let named = |name: &String| named(plan, name);
     let shapes = SHAPES.iter().map(|(name, _)| at(name));
     shapes
         .map(|names| names.iter().flat_map(named).collect())

@@ -4,12 +4,16 @@
 use harness::compare::{
     case_alike, press_alike, replay_alike, unnamed_press, unnamed_replay, Count,
 };
-use harness::library::{self, numbers, Slot, NO_EDITION, NO_RECYCLING, PRESS_WORDS};
+use harness::library::{self, numbers, Slot, NO_EDITION, NO_LOWERING, NO_RECYCLING, PRESS_WORDS};
 use harness::sheets;
 use reference::edition::Edition;
-use reference::plan::{Plan, Recycling};
+use reference::plan::Lowering::{self, Nothing, Units};
+use reference::plan::Plan;
+use reference::plan::Recycling::{self, Intersection, Reset};
 use reference::rng::Rng;
+use reference::sheets::lowering::{everywhere, sharper};
 use reference::sheets::recycling::{all_allow, reset_shorter};
+use reference::sheets::Worked;
 
 #[test]
 fn random_cases_are_alike() {
@@ -19,25 +23,58 @@ fn random_cases_are_alike() {
     }
     assert!(count.pressed > 400 && count.replayed > 300 && count.refused > 400);
     assert!(count.wide > 500);
-    assert!(count.reset * 10 > count.pressed * 4 && count.reset * 10 < count.pressed * 6);
+    for some in [count.reset, count.units] {
+        assert!(some * 10 > count.pressed * 4 && some * 10 < count.pressed * 6);
+    }
+}
+
+/// How many steps are left of a good sheet.
+fn steps(worked: &Worked, recycling: Recycling, lowering: Lowering) -> usize {
+    let (sheet, rules) = worked.bytes();
+    let lent = (
+        worked.edition.room(worked.records.len()),
+        worked.rules.len(),
+    );
+    let (mut rng, plan) = (Rng::new(4, 0), worked.plan(recycling, lowering));
+    let pressed = press_alike(&mut rng, plan, &sheet, &rules, lent, PRESS_WORDS);
+    pressed.unwrap().expect("it is accepted").1.steps
 }
 
 /// Sheets that the recyclings press apart, in both directions: the number decides.
 #[test]
 fn the_recyclings_are_named_by_their_numbers() {
-    let mut rng = Rng::new(4, 0);
-    for (worked, steps) in [(all_allow(), [4, 3]), (reset_shorter(), [1, 2])] {
-        let (sheet, rules) = worked.bytes();
-        let lent = (
-            worked.edition.room(worked.records.len()),
-            worked.rules.len(),
-        );
-        let by = |recycling| {
-            let plan = worked.plan(recycling);
-            let pressed = press_alike(&mut rng, plan, &sheet, &rules, lent, PRESS_WORDS);
-            pressed.unwrap().expect("it is accepted").1.steps
-        };
-        assert_eq!(Recycling::ALL.map(by), steps);
+    for (worked, expected) in [(all_allow(), [4, 3]), (reset_shorter(), [1, 2])] {
+        let by = |recycling| steps(&worked, recycling, Nothing);
+        assert_eq!(Recycling::ALL.map(by), expected);
+    }
+}
+
+#[test]
+fn the_lowerings_are_named_by_their_numbers() {
+    for (worked, recycling, expected) in [
+        (everywhere(), Intersection, [5, 3]),
+        (sharper(), Reset, [7, 4]),
+        (sharper(), Intersection, [5, 5]),
+    ] {
+        let by = |lowering| steps(&worked, recycling, lowering);
+        assert_eq!([Nothing, Units].map(by), expected);
+    }
+}
+
+/// The longest sheets, and of `shared` nearly as many units as can be.
+#[test]
+fn the_shapes_are_alike_by_every_plan() {
+    let mut rng = Rng::new(5, 0);
+    for sheet in Edition::ALL
+        .into_iter()
+        .flat_map(Plan::all)
+        .flat_map(sheets::all)
+    {
+        let lent = (sheet.plan.edition.room(sheet.records()), sheet.lines());
+        let (bytes, rules) = (&sheet.sheet, &sheet.rules);
+        let pressed = press_alike(&mut rng, sheet.plan, bytes, rules, lent, PRESS_WORDS);
+        let (out, done) = pressed.unwrap().expect("it is accepted");
+        assert_eq!((out, done), (sheet.out, sheet.pressed));
     }
 }
 
@@ -98,10 +135,7 @@ fn a_row_is_as_long_as_the_header_says() {
         .into_iter()
         .flat_map(|edition| (0..6).map(move |slots| (edition, slots)))
     {
-        let pair = &sheets::all(Plan {
-            edition,
-            ..Plan::PROGRAM
-        })[0];
+        let pair = &sheets::all(Plan::program_in(edition))[0];
         let mut words = [u64::MAX; 5 * 8];
         let row: *mut Slot = words[5..].as_mut_ptr().cast();
         let row = unsafe { std::slice::from_raw_parts_mut(row, slots) };
@@ -117,19 +151,22 @@ fn a_row_is_as_long_as_the_header_says() {
 }
 
 /// Any number but 0 and 1, with sheets that a press or a replay would take. The
-/// edition is looked at first.
+/// edition is looked at first, and the lowering last.
 #[test]
 fn a_number_that_names_nothing_is_answered_and_nothing_is_touched() {
     let mut rng = Rng::new(3, 0);
-    let unknown = [2, 3, 254, 255, 256, 1 << 16, u32::MAX - 1, u32::MAX];
+    let unknown = [2, 3, 253, 254, 255, 256, 1 << 16, u32::MAX - 1, u32::MAX];
     for sheet in sheets::of_both() {
         let (bytes, rules) = (&sheet.sheet, &sheet.rules);
-        let [edition, recycling] = numbers(sheet.plan);
+        let [edition, recycling, lowering] = numbers(sheet.plan);
         for number in unknown {
             for (numbers, answer) in [
-                ([number, recycling], NO_EDITION),
-                ([edition, number], NO_RECYCLING),
-                ([number, number], NO_EDITION),
+                ([number, recycling, lowering], NO_EDITION),
+                ([edition, number, lowering], NO_RECYCLING),
+                ([edition, recycling, number], NO_LOWERING),
+                ([number, number, lowering], NO_EDITION),
+                ([edition, number, number], NO_RECYCLING),
+                ([number, recycling, number], NO_EDITION),
             ] {
                 unnamed_press(&mut rng, numbers, answer, bytes, rules).unwrap();
             }
@@ -137,7 +174,8 @@ fn a_number_that_names_nothing_is_answered_and_nothing_is_touched() {
         }
     }
     // with a sheet and a table that would be refused
-    unnamed_press(&mut rng, [2, 0], NO_EDITION, &[], &[0]).unwrap();
-    unnamed_press(&mut rng, [0, 2], NO_RECYCLING, &[], &[0]).unwrap();
+    unnamed_press(&mut rng, [2, 0, 0], NO_EDITION, &[], &[0]).unwrap();
+    unnamed_press(&mut rng, [0, 2, 0], NO_RECYCLING, &[], &[0]).unwrap();
+    unnamed_press(&mut rng, [0, 0, 2], NO_LOWERING, &[], &[0]).unwrap();
     unnamed_replay(&mut rng, 2, &[], &[0]).unwrap();
 }

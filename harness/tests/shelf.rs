@@ -2,14 +2,12 @@
 //! writes against each rule table of the shelf's page.
 
 use harness::library::{self, Slot};
+use reference::plan::Plan;
 use reference::shelf::{changes, Shelf};
 use std::fs;
 use std::path::Path;
 
 const NARROW: u32 = 0;
-/// The program's plan.
-const PLAN: [u32; 2] = [NARROW, 1];
-
 /// What is printed of a replay on the page.
 fn said(sheet: &[u8], rules: &[u8], slots: usize) -> String {
     let mut row = vec![Slot::default(); slots];
@@ -27,7 +25,8 @@ fn the_technician_may_change_the_lamps_line() {
     let shelf = Shelf::read(&file("shelf.txt")).unwrap();
     let (sheet, rules) = (shelf.sheet(), shelf.rules());
     let (mut out, mut marks, mut report) = (vec![0; 2 * sheet.len()], [7; 9], [0; 8]);
-    let code = library::press(PLAN, &sheet, &rules, &mut out, &mut marks, &mut report);
+    let plan = library::numbers(Plan::PROGRAM);
+    let code = library::press(plan, &sheet, &rules, &mut out, &mut marks, &mut report);
     assert_eq!((code, marks), (0, [1, 1, 1, 1, 1, 1, 0, 1, 1]));
     let (records, peak) = (report[3] as usize, report[6] as usize);
     let pressed = &out[..24 * records];
