@@ -10,6 +10,7 @@ import argparse, pathlib, shutil, subprocess, sys, tempfile
 ROOT = pathlib.Path(__file__).resolve().parent.parent
 BATCH = 25
 EDITIONS = ["narrow", "wide"]
+LOWERINGS = {"nothing": "Nothing", "units": "(Of Units)", "univalents": "(Of Univalents)"}
 
 
 def numbers(values):
@@ -50,7 +51,7 @@ def case(block):
     said, refused = answer(block[1].split())
     edition = words[1].capitalize()
     if words[0] == "press":
-        passes = f"{words.pop(2)} {words.pop(2)}".title()
+        passes = f"{words.pop(2).capitalize()} {LOWERINGS[words.pop(2)]}"
     sheet, _ = byte_list(words[2])
     rules, _ = byte_list(words[3])
     if words[0] == "press":
@@ -86,7 +87,8 @@ use Rattle.replay_spec.specs.Replay.{start}
 use Rattle.press_spec.specs.declared.Recycling.{Recycling}
 use Rattle.press_spec.specs.declared.Recycling.the-variants.{Reset, Intersection}
 use Rattle.press_spec.specs.declared.Lowering.{Lowering}
-use Rattle.press_spec.specs.declared.Lowering.the-variants.{Nothing, Units}
+use Rattle.press_spec.specs.declared.Lowering.the-variants.{Nothing, Of}
+use Rattle.press_spec.specs.declared.Lowerable.the-variants.{Units, Univalents}
 use Rattle.press_spec.specs.Plans.{plan}
 use Rattle.press_spec.specs.Press as Press
 use Rattle.demands.specs.Cases as Cases

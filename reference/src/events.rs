@@ -1,11 +1,13 @@
 //! Interesting things that may happen inside an accepted press.
 
+use crate::clause::{Clause, Literal};
 use crate::passes::drops::{peak, with_drops};
-use crate::passes::lower::{Lowered, Return};
+use crate::passes::lower::{Low, Lowered, Return};
 use crate::passes::order::{order, order_by};
 use crate::passes::rebuild::Why;
 use crate::passes::recycle::{uncut_edges, Edge};
-use crate::plan::{Plan, Recycling};
+use crate::passes::univalents::{lower_by, lowers, Turn};
+use crate::plan::{Lowering, Plan, Recycling};
 use crate::press::Passes;
 use crate::proof::{Node, Proof};
 use crate::record::Record;
@@ -21,6 +23,11 @@ pub fn pass_events(plan: Plan, passes: &Passes) -> Vec<Event> {
         match &passes.lowered {
             None => vec![],
             Some(lowered) => lowering_events(passes, lowered),
+        },
+        match (plan.lowering, &passes.lowered) {
+            (Lowering::Units, Some(lowered)) => unit_events(passes, lowered),
+            (Lowering::Univalents, Some(lowered)) => univalent_events(passes, lowered),
+            _ => vec![],
         },
         order_events(passes),
         output_events(passes),
@@ -173,12 +180,9 @@ fn sharing_events(recycling: Recycling, passes: &Passes) -> Vec<Event> {
     }
 }
 
-/// What lowering came to.
+/// What lowering came to, whatever was lowered.
 fn lowering_events(passes: &Passes, lowered: &Lowered) -> Vec<Event> {
-    let Lowered { units, returns, .. } = lowered;
     let before = &passes.recycled;
-    let literals: BTreeSet<_> = units.iter().map(|unit| unit.literal).collect();
-    let rebuilt = |node: usize| lowered.nodes[&lowered.rebuilt.stand_ins[&node]].clause();
     let records = with_drops(before, &order(before));
     let [old_peak, new_peak] = [&records, &passes.records].map(|records| peak(records));
     let both_ways = |proof: &Proof| {
@@ -186,22 +190,10 @@ fn lowering_events(passes: &Passes, lowered: &Lowered) -> Vec<Event> {
         nodes.any(|node| node.clause().holds_both_ways())
     };
     vec![
-        ("lower: a unit", !units.is_empty()),
-        ("lower: three or more", units.len() >= 3),
-        ("lower: one literal twice", literals.len() < units.len()),
-        (
-            "lower: an opposite is passed over",
-            passed_over(passes, lowered),
-        ),
-        (
-            "lower: a unit by another one",
-            units
-                .iter()
-                .any(|of| rebuilt(of.node) != before.nodes[&of.node].clause()),
-        ),
+        ("lower: three or more", lowered.low.len() >= 3),
         (
             "lower: the conclusion stays",
-            returns.contains(&Return::Stays),
+            lowered.returns.contains(&Return::Stays),
         ),
         (
             "lower: the conclusion has fewer literals",
@@ -216,28 +208,94 @@ fn lowering_events(passes: &Passes, lowered: &Lowered) -> Vec<Event> {
     ]
 }
 
+fn unit_events(passes: &Passes, lowered: &Lowered) -> Vec<Event> {
+    let units = &lowered.low;
+    let literals: BTreeSet<_> = units.iter().map(|unit| unit.literal).collect();
+    let old = |node: usize| passes.recycled.nodes[&node].clause();
+    let by_another = |unit: &Low| lowered.rebuilt.clause(unit.node) != old(unit.node);
+    vec![
+        ("units: one is lowered", !units.is_empty()),
+        ("units: one literal twice", literals.len() < units.len()),
+        (
+            "units: an opposite is passed over",
+            passed_over(passes, lowered),
+        ),
+        ("units: one by another one", units.iter().any(by_another)),
+    ]
+}
+
 /// Whether a unit was not collected because its opposite was.
 fn passed_over(passes: &Passes, lowered: &Lowered) -> bool {
     let uses = passes.recycled.uses();
     let mut nodes = passes.recycled.nodes.iter();
     nodes.any(|(number, node)| {
         let literals: Vec<_> = node.clause().literals().collect();
-        let collected = lowered.units.iter().any(|unit| unit.node == *number);
+        let collected = lowered.low.iter().any(|unit| unit.node == *number);
         literals.len() == 1 && uses[number] >= 2 && !collected
     })
 }
 
-/// Whether the two recyclings part.
-pub fn parting_events([reset, intersection]: &[Passes; 2]) -> Vec<Event> {
-    let steps = [reset, intersection].map(|passes| passes.pressed.steps());
+fn univalent_events(passes: &Passes, lowered: &Lowered) -> Vec<Event> {
+    let old = |low: &Low| passes.recycled.nodes[&low.node].clause();
+    let longest = lowered.low.iter().map(|low| old(low).literals().count());
+    let longest = longest.max().unwrap_or(0);
+    let lacks = |why: &Why| matches!(why, Why::LeftLacksPivot | Why::RightLacksPivot);
+    // whether a node is lowered only with another D, or with its last use only
+    let [mut by_l, mut by_opposite, mut by_uses] = [false; 3];
+    lower_by(&passes.recycled, |turn| {
+        if let (None, Some(&l)) = (lowers(turn), turn.uses.last()) {
+            let with = |d: Clause, uses: &[Literal]| {
+                lowers(&Turn {
+                    d: &d,
+                    uses,
+                    ..*turn
+                })
+            };
+            by_l |= with(turn.d.without(l), turn.uses).is_some();
+            by_opposite |= with(turn.d.without(l.opposite()), turn.uses).is_some();
+            by_uses |= turn.uses.len() > 1 && with(turn.d.clone(), &[l, l]).is_some();
+        }
+        lowers(turn)
+    });
     vec![
+        ("univalents: one is lowered", longest > 0),
+        ("univalents: one of two literals", longest == 2),
+        ("univalents: one of three or more", longest > 2),
+        ("univalents: l in D keeps one", by_l),
+        ("univalents: its opposite in D keeps one", by_opposite),
+        ("univalents: uses on two literals keep one", by_uses),
         (
-            "both: the recyclings press apart",
-            reset.records != intersection.records,
+            "univalents: a stand-in lacks the pivot",
+            lowered.rebuilt.why.values().any(lacks),
         ),
-        ("both: the intersection is shorter", steps[1] < steps[0]),
-        ("both: the reset is shorter", steps[0] < steps[1]),
     ]
+}
+
+/// Whether the two recyclings part.
+pub fn recyclings_part(both: &[Passes; 2]) -> Vec<Event> {
+    let names = [
+        "both: the recyclings press apart",
+        "both: the reset is shorter",
+        "both: the intersection is shorter",
+    ];
+    parting_events(names, both)
+}
+
+/// Whether the units and the univalents do.
+pub fn lowerings_part(both: &[Passes; 2]) -> Vec<Event> {
+    let names = [
+        "both: units and univalents press apart",
+        "both: lowering units is shorter",
+        "both: lowering univalents is shorter",
+    ];
+    parting_events(names, both)
+}
+
+/// Whether they part, and which is the shorter one.
+fn parting_events(names: [&'static str; 3], [one, other]: &[Passes; 2]) -> Vec<Event> {
+    let [first, second] = [one, other].map(|passes| passes.pressed.steps());
+    let happened = [one.records != other.records, first < second, second < first];
+    names.into_iter().zip(happened).collect()
 }
 
 /// Whether a cut step's kept parent is cut in its turn.

@@ -35,23 +35,26 @@ impl Recycling {
     }
 }
 
-/// What is lowered after step 4. Document 02 (i): "as an option".
+/// What is lowered after step 4. Document 02 (i): "as an option"; and (xi): "as an
+/// alternative to (i)".
 #[derive(Clone, Copy, Debug, PartialEq, Eq, PartialOrd, Ord)]
 pub enum Lowering {
     Nothing,
     Units,
+    Univalents,
 }
 
-use Lowering::{Nothing, Units};
+use Lowering::{Nothing, Units, Univalents};
 
 impl Lowering {
-    pub const ALL: [Lowering; 2] = [Nothing, Units];
+    pub const ALL: [Lowering; 3] = [Nothing, Units, Univalents];
 
     /// The number that names it in a stream of cases and for C.
     pub fn number(self) -> u8 {
         match self {
             Nothing => 0,
             Units => 1,
+            Univalents => 2,
         }
     }
 
@@ -59,6 +62,7 @@ impl Lowering {
         match self {
             Nothing => "nothing",
             Units => "units",
+            Univalents => "univalents",
         }
     }
 

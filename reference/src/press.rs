@@ -4,11 +4,13 @@ use crate::edition::Edition;
 use crate::judge::{faults, judge, Around, Named};
 use crate::lengths::{check_inputs, check_room};
 use crate::passes::drops::{peak, with_drops};
-use crate::passes::lower::{lower_units, Lowered};
+use crate::passes::lower::Lowered;
 use crate::passes::order::order;
 use crate::passes::rebuild::{rebuild, Rebuilt};
 use crate::passes::recycle::{cuts, recycle, Visits};
 use crate::passes::trim::trim;
+use crate::passes::units::lower_units;
+use crate::passes::univalents::lower_univalents;
 use crate::plan::{Lowering, Plan};
 use crate::proof::{Node, Proof};
 use crate::record::Record;
@@ -122,6 +124,7 @@ pub fn run_passes(plan: Plan, input: Proof) -> Passes {
     let lowered = match plan.lowering {
         Lowering::Nothing => None,
         Lowering::Units => Some(lower_units(&recycled)),
+        Lowering::Univalents => Some(lower_univalents(&recycled)),
     };
     let pressed = match &lowered {
         None => recycled.clone(),

@@ -4,9 +4,9 @@
 use crate::cases::{draw, Case, Size};
 use crate::clause::Clause;
 use crate::edition::Edition;
-use crate::events::{high_events, parting_events, pass_events, Event};
+use crate::events::{high_events, lowerings_part, pass_events, recyclings_part, Event};
 use crate::judge::TRIED;
-use crate::plan::{Plan, Recycling};
+use crate::plan::{Lowering, Plan, Recycling};
 use crate::press::{press, read_proof, record_faults, run_passes};
 use crate::record::Record;
 use crate::replay::{replay_watched, step, step_faults, Slot, Tally};
@@ -60,12 +60,15 @@ impl Stats {
             Ok(_) => {
                 *self.press.entry((edition, ACCEPTED)).or_default() += 1;
                 let proof = read_proof(edition, sheet, rules).expect("it was accepted");
-                let by = |recycling| run_passes(Plan { recycling, ..plan }, proof.clone());
-                let both = Recycling::ALL.map(by);
+                let by = |plan| run_passes(plan, proof.clone());
+                let both = Recycling::ALL.map(|recycling| by(Plan { recycling, ..plan }));
                 let passes = &both[usize::from(plan.recycling.number())];
                 self.count_events(&pass_events(plan, passes));
                 self.count_events(&high_events(passes));
-                self.count_events(&parting_events(&both));
+                self.count_events(&recyclings_part(&both));
+                let both = [Lowering::Units, Lowering::Univalents];
+                let both = both.map(|lowering| by(Plan { lowering, ..plan }));
+                self.count_events(&lowerings_part(&both));
                 self.count_events(&size_events(edition, sheet, rules, room));
             }
         }

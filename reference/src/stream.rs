@@ -3,11 +3,11 @@
 //! A case is sixteen bytes, then its sheet and its rule table. Byte 0 says what
 //! is run: 0 the press, 1 the replay, 2 the replay shown record by record. Byte
 //! 1 is the edition: 0 narrow, 1 wide. Byte 2 is a press's recycling: 0 reset, 1
-//! intersection. Byte 3 is its lowering: 0 nothing, 1 units. Of a replay both are
-//! 0. Then come six numbers of two bytes, little-endian: bytes of the sheet,
-//! bytes of the rule table, bytes of room or the number of slots, bytes of marks
-//! or zero; and how many bytes of the sheet and of the rule table follow. The
-//! rest of each is zero, so that long ones need few bytes.
+//! intersection. Byte 3 is its lowering: 0 nothing, 1 units, 2 univalents. Of a
+//! replay both are 0. Then come six numbers of two bytes, little-endian: bytes of
+//! the sheet, bytes of the rule table, bytes of room or the number of slots, bytes
+//! of marks or zero; and how many bytes of the sheet and of the rule table follow.
+//! The rest of each is zero, so that long ones need few bytes.
 //!
 //! What is printed is, for each case, its number, its edition, what is run, a
 //! press's recycling and lowering and the first four numbers, and then the

@@ -2,9 +2,9 @@
 //!
 //! Each case is a block of lines that ends with an empty line. Words are
 //! separated by single spaces. An edition is `narrow` or `wide`, a recycling
-//! `reset` or `intersection`, a lowering `nothing` or `units`. Byte strings are
-//! lower-case hex, `-` if empty; sets are numbers whose bit v is variable v, of
-//! 16 hex digits, or 32 in the wide edition; all else is decimal.
+//! `reset` or `intersection`, a lowering `nothing`, `units` or `univalents`. Byte
+//! strings are lower-case hex, `-` if empty; sets are numbers whose bit v is
+//! variable v, of 16 hex digits, or 32 in the wide edition; all else is decimal.
 //!
 //! ```text
 //! press <edition> <recycling> <lowering> <sheet> <rules> <bytes of room> <bytes of marks>

@@ -3,6 +3,7 @@
 mod common;
 
 use common::lowering::within;
+use common::univalents::{after, as_rebuilt};
 use common::wide::*;
 use common::*;
 use reference::sheets::{rules, sheet};
@@ -103,6 +104,8 @@ fn both_editions_press_alike() {
         second_trim(),
         places(),
         within(),
+        after(),
+        as_rebuilt(),
     ];
     for worked in starred_and(&told) {
         let wide = worked.clone().in_edition(Wide);

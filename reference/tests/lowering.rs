@@ -1,63 +1,40 @@
-//! Document 02 (i), "Lower the units".
+//! Document 02 (i), "Lower the units", and what holds of either lowering.
 
 mod common;
 
 use common::lowering::*;
 use common::*;
-use reference::cases::facts::facts;
+use reference::cases::facts::{facts, lemmas};
 use reference::cases::shapes;
 use reference::cases::stages::ladder;
 use reference::clause::{Clause, Literal};
 use reference::passes::drops::peak;
-use reference::passes::lower::{Lowered, Return};
 use reference::press::{read_proof, run_passes, Passes};
 use reference::proof::Node;
 use reference::record::Record;
 use reference::replay::{replay, Slot};
 use reference::sheets::{rules, sheet};
 use std::collections::BTreeSet;
-use Return::{NewStep, Stays};
 
 /// By the intersection, with the units lowered.
 fn lower(worked: &Worked) -> Passes {
     passes_lowering(Intersection, Units, worked)
 }
 
-fn lowered(passes: &Passes) -> &Lowered {
-    passes.lowered.as_ref().expect("the units are lowered")
-}
-
-/// What is collected, in order, and what became of it.
-fn units(passes: &Passes) -> Vec<(usize, Clause, Return)> {
-    let Lowered { units, returns, .. } = lowered(passes);
-    let of = |unit: &reference::passes::lower::Unit| Clause::from_iter([unit.literal]);
-    let told = units.iter().zip(returns);
-    told.map(|(unit, &back)| (unit.node, of(unit), back))
-        .collect()
-}
-
-fn unit(node: usize, literal: &str, back: Return) -> (usize, Clause, Return) {
-    (node, clause(literal), back)
-}
-
-fn stand_ins<const N: usize>(passes: &Passes, nodes: [usize; N]) -> [usize; N] {
-    nodes.map(|node| lowered(passes).rebuilt.stand_ins[&node])
-}
-
 /// The steps with nothing lowered, and with the units lowered.
 fn steps(recycling: Recycling, worked: &Worked) -> [usize; 2] {
-    Lowering::ALL.map(|of| passes_lowering(recycling, of, worked).pressed.steps())
+    steps_lowering(recycling, [Nothing, Units], worked)
 }
 
 fn peaks(worked: &Worked) -> [usize; 2] {
-    Lowering::ALL.map(|of| peak(&passes_lowering(Intersection, of, worked).records))
+    [Nothing, Units].map(|of| peak(&passes_lowering(Intersection, of, worked).records))
 }
 
 #[test]
 fn units_come_back_in_the_order_of_their_collection() {
     let passes = lower(&everywhere());
-    let expected = [unit(1, "-1", NewStep), unit(0, "+0", NewStep)];
-    assert_eq!(units(&passes), expected);
+    let expected = [low_one(1, "-1", NewStep), low_one(0, "+0", NewStep)];
+    assert_eq!(low(&passes), expected);
     assert_eq!(stand_ins(&passes, [3, 4, 6, 7, 8]), [2, 2, 5, 5, 8]);
     let expected = [
         given(0, "+0"),
@@ -92,8 +69,8 @@ fn new_steps_are_numbered_above_all() {
 #[test]
 fn a_units_own_derivation_is_rebuilt() {
     let passes = lower(&within());
-    let expected = [unit(2, "+0", NewStep), unit(0, "+1", NewStep)];
-    assert_eq!(units(&passes), expected);
+    let expected = [low_one(2, "+0", NewStep), low_one(0, "+1", NewStep)];
+    assert_eq!(low(&passes), expected);
     assert_eq!(stand_ins(&passes, [2, 5, 6, 7, 8]), [1, 3, 4, 4, 8]);
     let nodes = &passes.pressed.nodes;
     let clauses = [8, 9, 10].map(|node| nodes[&node].clause().clone());
@@ -104,7 +81,7 @@ fn a_units_own_derivation_is_rebuilt() {
 #[test]
 fn of_opposite_units_the_first_is_collected() {
     let passes = lower(&opposites());
-    assert_eq!(units(&passes), [unit(1, "-0", NewStep)]);
+    assert_eq!(low(&passes), [low_one(1, "-0", NewStep)]);
     assert_eq!(stand_ins(&passes, [3, 5, 7, 10]), [3, 5, 6, 9]);
     assert_eq!(steps(Intersection, &opposites()), [7, 6]);
 }
@@ -112,34 +89,34 @@ fn of_opposite_units_the_first_is_collected() {
 #[test]
 fn one_literal_is_collected_twice() {
     let expected = [
-        unit(4, "+0", NewStep),
-        unit(2, "+1", NewStep),
-        unit(0, "+0", NewStep),
+        low_one(4, "+0", NewStep),
+        low_one(2, "+1", NewStep),
+        low_one(0, "+0", NewStep),
     ];
-    assert_eq!(units(&lower(&again())), expected);
+    assert_eq!(low(&lower(&again())), expected);
     assert_eq!(steps(Intersection, &again()), [9, 6]);
 }
 
 #[test]
 fn a_conclusion_that_lacks_the_opposite_stays() {
     let done = lower(&stays());
-    let expected = [unit(1, "+0", NewStep), unit(0, "+0", Stays)];
-    assert_eq!(units(&done), expected);
+    let expected = [low_one(1, "+0", NewStep), low_one(0, "+0", Stays)];
+    assert_eq!(low(&done), expected);
     assert_eq!(steps(Intersection, &stays()), [7, 4]);
     let core = press_lowering(Intersection, Units, &stays()).core;
     assert_eq!(core, [1, 2, 3, 4, 5]);
     let needless = needless();
     let done = passes_lowering(Reset, Units, &needless);
-    assert_eq!(units(&done), [unit(0, "+0", Stays)]);
+    assert_eq!(low(&done), [low_one(0, "+0", Stays)]);
     assert_eq!(steps(Reset, &needless), [8, 6]);
     // the intersection has cut both uses
-    assert!(units(&lower(&needless)).is_empty());
+    assert!(low(&lower(&needless)).is_empty());
 }
 
 #[test]
 fn two_uses_are_needed() {
     let passes = lower(&once());
-    assert!(units(&passes).is_empty());
+    assert!(low(&passes).is_empty());
     assert_eq!(passes.records, passes_by(Intersection, &once()).records);
 }
 
@@ -148,13 +125,13 @@ fn two_uses_are_needed() {
 fn uses_are_counted_after_step_4() {
     let merged_passes = lower(&merged());
     assert_eq!(merged_passes.trimmed.uses()[&0], 1);
-    assert_eq!(units(&merged_passes), [unit(0, "-0", NewStep)]);
+    assert_eq!(low(&merged_passes), [low_one(0, "-0", NewStep)]);
     let by_reset = passes_lowering(Reset, Units, &merged());
-    assert_eq!(units(&by_reset), [unit(4, "-0", NewStep)]);
+    assert_eq!(low(&by_reset), [low_one(4, "-0", NewStep)]);
     let fewer_passes = lower(&fewer());
     assert_eq!(fewer_passes.trimmed.uses()[&0], 2);
     assert_eq!(fewer_passes.recycled.uses()[&0], 1);
-    assert!(units(&fewer_passes).is_empty());
+    assert!(low(&fewer_passes).is_empty());
 }
 
 /// A node that one step names on both sides holds the pivot both ways, and so two
@@ -163,7 +140,7 @@ fn uses_are_counted_after_step_4() {
 fn a_single_literal_and_not_a_single_variable() {
     let passes = passes_lowering(Reset, Units, &twice_again());
     assert_eq!(passes.recycled.uses()[&2], 2);
-    assert!(units(&passes).is_empty());
+    assert!(low(&passes).is_empty());
 }
 
 #[test]
@@ -178,8 +155,8 @@ fn the_conclusion_may_lose_literals() {
 #[test]
 fn uses_of_a_unit_that_stays_away_do_not_count() {
     let passes = lower(&third_trim());
-    let expected = [unit(3, "+0", NewStep), unit(2, "+0", Stays)];
-    assert_eq!(units(&passes), expected);
+    let expected = [low_one(3, "+0", NewStep), low_one(2, "+0", Stays)];
+    assert_eq!(low(&passes), expected);
     let nodes = &lowered(&passes).nodes;
     assert!(nodes.contains_key(&1) && !passes.pressed.nodes.contains_key(&1));
     let place = |node| passes.order.iter().position(|&n| n == node).unwrap();
@@ -195,36 +172,47 @@ fn the_peak_may_rise_and_fall() {
 #[test]
 fn units_over_63() {
     let passes = lower(&high_everywhere());
-    let expected = [unit(1, "-64", NewStep), unit(0, "+0", NewStep)];
-    assert_eq!(units(&passes), expected);
+    let expected = [low_one(1, "-64", NewStep), low_one(0, "+0", NewStep)];
+    assert_eq!(low(&passes), expected);
     assert_eq!(passes.order, lower(&everywhere()).order);
-    assert!(units(&lower(&one_in_each_half())).is_empty());
+    assert!(low(&lower(&one_in_each_half())).is_empty());
 }
 
-/// The presses of random proofs, most of them with facts that are used everywhere.
-fn random() -> impl Iterator<Item = Passes> {
-    Recycling::ALL.into_iter().flat_map(|recycling| {
-        let with_facts = random_passes(31, 1500, recycling, Units, facts);
-        with_facts.chain(random_passes(32, 500, recycling, Units, shapes::draw))
+/// The presses of random proofs, most of them of a shape in which much is lowered.
+fn random_by(lowering: Lowering) -> impl Iterator<Item = Passes> {
+    let shape = match lowering {
+        Univalents => lemmas,
+        _ => facts,
+    };
+    Recycling::ALL.into_iter().flat_map(move |recycling| {
+        let of_shape = random_passes(31, 1500, recycling, lowering, shape);
+        of_shape.chain(random_passes(32, 500, recycling, lowering, shapes::draw))
     })
 }
 
-/// A unit has its uses in different steps, no step has two, and so with k units at
-/// least 2k steps go, of which at most k come back.
+/// By either lowering.
+fn random() -> impl Iterator<Item = Passes> {
+    [Units, Univalents].into_iter().flat_map(random_by)
+}
+
+/// A lowered node has its uses in different steps, no step has two, and so with k of
+/// them at least 2k steps go, of which at most k come back.
 #[test]
-fn every_unit_takes_a_step_away() {
-    let mut seen = 0;
-    for passes in random() {
-        let units = lowered(&passes).units.len();
-        assert!(passes.pressed.steps() + units <= passes.recycled.steps());
-        seen += usize::from(units > 0);
+fn every_lowered_node_takes_a_step_away() {
+    for lowering in [Units, Univalents] {
+        let mut seen = 0;
+        for passes in random_by(lowering) {
+            let low = lowered(&passes).low.len();
+            assert!(passes.pressed.steps() + low <= passes.recycled.steps());
+            seen += usize::from(low > 0);
+        }
+        assert!(seen > 500);
     }
-    assert!(seen > 500);
 }
 
 #[test]
-fn without_units_all_stays_as_it_is() {
-    for passes in random().filter(|passes| lowered(passes).units.is_empty()) {
+fn where_nothing_is_lowered_all_stays_as_it_is() {
+    for passes in random().filter(|passes| lowered(passes).low.is_empty()) {
         assert_eq!(passes.pressed, passes.recycled);
     }
 }
@@ -251,7 +239,7 @@ fn the_longest_sheet_with_the_most_units() {
         };
         let passes = run_passes(plan, proof);
         assert_eq!(passes.recycled.sink, sink);
-        assert_eq!(lowered(&passes).units.len(), units);
+        assert_eq!(lowered(&passes).low.len(), units);
         assert_eq!(passes.pressed.sink, sink + units);
     }
 }
@@ -267,55 +255,64 @@ fn the_conclusion_lies_in_the_old_one() {
 #[test]
 fn no_step_has_both_edges_cut() {
     for passes in random() {
-        let units = &lowered(&passes).units;
-        let collected = |node: &usize| units.iter().any(|unit| unit.node == *node);
+        let low = &lowered(&passes).low;
+        let is_low = |node: &usize| low.iter().any(|low| low.node == *node);
         for node in passes.recycled.nodes.values() {
             let parents: BTreeSet<usize> = node.parents().into_iter().collect();
-            assert!(parents.iter().filter(|parent| collected(parent)).count() < 2);
-            // a unit is named once
-            assert!(parents.len() == node.parents().len() || !parents.iter().any(collected));
+            assert!(parents.iter().filter(|parent| is_low(parent)).count() < 2);
+            // a lowered node is named once
+            assert!(parents.len() == node.parents().len() || !parents.iter().any(is_low));
         }
     }
 }
 
-/// Rebuilt clauses only grow, by opposites of what is collected. So a stand-in has
-/// its pivot, and a rebuilt unit its literal: it never becomes the conclusion.
+/// Rebuilt clauses gain opposites of what is lowered, and nothing else. Those of the
+/// units lose nothing either, so that every stand-in has its pivot.
 #[test]
-fn a_rebuilt_clause_holds_the_old_one() {
-    for passes in random() {
-        let Lowered {
-            units,
-            returns,
-            rebuilt,
-            ..
-        } = lowered(&passes);
-        let opposites: Clause = units.iter().map(|unit| unit.literal.opposite()).collect();
-        for (number, old) in &passes.recycled.nodes {
-            let new = rebuilt.nodes[&rebuilt.stand_ins[number]].clause();
-            assert!(old.clause().is_within(new));
-            assert!(new.is_within(&old.clause().joined(&opposites)));
+fn a_rebuilt_clause_gains_only_opposites() {
+    for lowering in [Units, Univalents] {
+        for passes in random_by(lowering) {
+            let Lowered { low, rebuilt, .. } = lowered(&passes);
+            let opposites: Clause = low.iter().map(|low| low.literal.opposite()).collect();
+            for (&number, old) in &passes.recycled.nodes {
+                let new = rebuilt.clause(number);
+                assert!(new.is_within(&old.clause().joined(&opposites)));
+                assert!(lowering != Units || old.clause().is_within(new));
+            }
         }
-        assert!(!returns.contains(&Return::UnitConcludes));
+    }
+}
+
+/// A rebuilt node that is lowered holds its literal: a unit loses nothing, and of a
+/// univalent the rule asks it.
+#[test]
+fn a_lowered_node_never_becomes_the_conclusion() {
+    for passes in random() {
+        let Lowered { low, rebuilt, .. } = lowered(&passes);
+        assert!(low
+            .iter()
+            .all(|low| rebuilt.clause(low.node).holds(low.literal)));
+        assert!(!lowered(&passes).returns.contains(&Return::Concludes));
     }
 }
 
 /// "the unit on the left if l is positive, else on the right".
 #[test]
-fn new_steps_have_the_unit_on_the_side_of_its_literal() {
+fn new_steps_have_the_lowered_node_on_the_side_of_its_literal() {
     for passes in random() {
         let lowered = lowered(&passes);
         let stand_in = |node| lowered.rebuilt.stand_ins[&node];
         let mut new = lowered.nodes.range(passes.recycled.sink + 1..);
-        let back = lowered.units.iter().zip(&lowered.returns);
-        for (unit, _) in back.filter(|(_, back)| **back == NewStep) {
+        let back = lowered.low.iter().zip(&lowered.returns);
+        for (low, _) in back.filter(|(_, back)| **back == NewStep) {
             let Some((_, &Node::Step { left, right, .. })) = new.next() else {
                 panic!("a new step is missing");
             };
-            let side = match unit.literal {
+            let side = match low.literal {
                 Literal::Plus(_) => left,
                 Literal::Minus(_) => right,
             };
-            assert_eq!(side, stand_in(unit.node));
+            assert_eq!(side, stand_in(low.node));
         }
         assert!(new.next().is_none());
     }

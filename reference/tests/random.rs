@@ -131,8 +131,8 @@ fn small_cases_are_small() {
     }
 }
 
-/// About a third of the cases name the wide edition, and about half of the
-/// presses the intersection, and the units.
+/// About a third of the cases name the wide edition, about half of the presses the
+/// intersection, and about a third of them each lowering.
 #[test]
 fn cases_are_of_both_editions_and_of_all_passes() {
     let cases: Vec<Case> = (0..CASES).map(|n| draw(15, n, Size::Small)).collect();
@@ -144,9 +144,46 @@ fn cases_are_of_both_editions_and_of_all_passes() {
     });
     let plans: Vec<&Plan> = plans.collect();
     let half = plans.len() * 45 / 100..plans.len() * 55 / 100;
-    let by = |of: fn(&Plan) -> bool| plans.iter().filter(|plan| of(plan)).count();
-    assert!(half.contains(&by(|plan| plan.recycling == Intersection)));
-    assert!(half.contains(&by(|plan| plan.lowering == Units)));
+    let third = plans.len() * 28 / 100..plans.len() * 38 / 100;
+    let by = |of: &dyn Fn(&Plan) -> bool| plans.iter().filter(|plan| of(plan)).count();
+    assert!(half.contains(&by(&|plan| plan.recycling == Intersection)));
+    for lowering in Lowering::ALL {
+        assert!(third.contains(&by(&|plan| plan.lowering == lowering)));
+    }
+}
+
+/// Whether it is an accepted press by the univalents; and if so, whether by the
+/// units other bytes would come out.
+fn parts_from_units(case: &Case) -> Option<bool> {
+    let Case::Press {
+        plan,
+        sheet,
+        rules,
+        room,
+        marks,
+    } = case
+    else {
+        return None;
+    };
+    let out = |lowering| {
+        let (mut out, mut marks) = (vec![OLD; *room], vec![OLD; *marks]);
+        let plan = Plan { lowering, ..*plan };
+        let accepted = press(plan, sheet, rules, &mut out, &mut marks).is_ok();
+        accepted.then_some(out)
+    };
+    let univalents = out(Univalents).filter(|_| plan.lowering == Univalents)?;
+    Some(out(Units)? != univalents)
+}
+
+/// A slip that makes the one lowering into the other is seen.
+#[test]
+fn some_presses_by_the_univalents_part_from_the_units() {
+    for (size, least) in [(Size::Small, 4), (Size::Any, 40)] {
+        let told = (0..10_000).filter_map(|index| parts_from_units(&draw(16, index, size)));
+        let told: Vec<bool> = told.collect();
+        let parted = told.iter().filter(|parts| **parts).count();
+        assert!(told.len() > 500 && parted >= least, "{parted}");
+    }
 }
 
 #[test]

@@ -2,13 +2,15 @@
 //! and the tables that the definitions compute, are what this program makes.
 
 use reference::cases::Case;
-use reference::press::{press, read_proof, run_passes};
+use reference::plan::Lowering::{self, Units, Univalents};
+use reference::plan::Plan;
+use reference::press::{press, read_proof, run_passes, Passes};
 use reference::stream::{self, Entry, Stream};
 use reference::{tables, worked};
 
 /// The first seed under which 180 cases have every answer that short ones can
 /// have.
-const SEED: u64 = 28406;
+const SEED: u64 = 6103;
 const COUNT: u64 = 180;
 
 const BOTH: [u32; 13] = [1, 2, 4, 6, 7, 8, 9, 11, 12, 18, 13, 14, 17];
@@ -66,16 +68,24 @@ fn the_worked_cases_are_committed() {
         assert!(has(&text, &format!("{job} {over} "), "= refused 3 0"));
     }
     for edition in ["narrow", "wide"] {
-        for passes in ["reset nothing", "intersection units"] {
+        for passes in [
+            "reset nothing",
+            "intersection units",
+            "intersection univalents",
+        ] {
             let press = format!("{edition} press {passes}");
             assert!(has(&text, &press, "= ok "));
         }
     }
-    assert!(has(&text, "narrow press reset units", "= ok "));
+    for lowering in ["units", "univalents"] {
+        let press = format!("narrow press reset {lowering}");
+        assert!(has(&text, &press, "= ok "));
+    }
 }
 
-/// Whether it is an accepted press in which a unit is lowered.
-fn lowers(entry: &Entry) -> bool {
+/// The passes of a press that is accepted, with nothing, the units and the univalents
+/// lowered, and what it lowers itself.
+fn accepted(entry: &Entry) -> Option<(Lowering, [Passes; 3])> {
     let Case::Press {
         plan,
         sheet,
@@ -84,35 +94,47 @@ fn lowers(entry: &Entry) -> bool {
         marks,
     } = &entry.case
     else {
-        return false;
+        return None;
     };
     let (mut out, mut marks) = (vec![0; *room], vec![0; *marks]);
-    let accepted = press(*plan, sheet, rules, &mut out, &mut marks).is_ok();
-    accepted && {
-        let proof = read_proof(plan.edition, sheet, rules).expect("it is accepted");
-        let lowered = run_passes(*plan, proof).lowered;
-        lowered.is_some_and(|lowered| !lowered.units.is_empty())
-    }
+    press(*plan, sheet, rules, &mut out, &mut marks).ok()?;
+    let proof = read_proof(plan.edition, sheet, rules).expect("it is accepted");
+    let by = |lowering| run_passes(Plan { lowering, ..*plan }, proof.clone());
+    Some((plan.lowering, Lowering::ALL.map(by)))
+}
+
+/// In some random cases units are lowered, and in some univalents, and in one at
+/// least the units would come to something else.
+fn random_lower(entries: &[Entry]) -> bool {
+    let all: Vec<_> = entries.iter().filter_map(accepted).collect();
+    let by = |of: Lowering| all.iter().filter(move |(lowering, _)| *lowering == of);
+    let lowered = |of: Lowering| {
+        let own =
+            by(of).filter_map(|(_, passes)| passes[usize::from(of.number())].lowered.as_ref());
+        own.filter(|lowered| !lowered.low.is_empty()).count() >= 2
+    };
+    let parts =
+        |(_, [_, units, univalents]): &(_, [Passes; 3])| units.records != univalents.records;
+    lowered(Units) && lowered(Univalents) && by(Univalents).any(parts)
 }
 
 /// Random cases have every answer, and in the wide edition those that read its
-/// numbers, but for 3. In some of them units are lowered.
-fn random_have(entries: &[Entry], text: &str) -> bool {
+/// numbers, but for 3.
+fn random_have(text: &str) -> bool {
     let of_both = |number: u32| {
         let mut jobs = ["wide press", "wide replay"].into_iter();
         jobs.any(|job| has(text, job, &format!("= refused {number} ")))
     };
     let jobs = ["wide press reset", "wide press intersection", "wide replay"];
     let accepts = jobs.into_iter().all(|job| has(text, job, "= ok "));
-    let lowered = || entries.iter().filter(|entry| lowers(entry)).count();
-    accepts && [1, 4, 5, 8].into_iter().all(of_both) && has_every_answer(text, "") && lowered() >= 2
+    accepts && [1, 4, 5, 8].into_iter().all(of_both) && has_every_answer(text, "")
 }
 
 #[test]
 fn the_random_cases_are_committed() {
     let entries = stream::random(SEED, COUNT);
     let text = committed("cases_random", &entries).stdout;
-    assert!(random_have(&entries, &text));
+    assert!(random_lower(&entries) && random_have(&text));
 }
 
 /// Prints the first seed that will do, for when the cases change.
@@ -121,7 +143,7 @@ fn the_random_cases_are_committed() {
 fn find_a_seed() {
     let will_do = |seed: &u64| {
         let entries = stream::random(*seed, COUNT);
-        random_have(&entries, &stream::of(&entries).stdout)
+        random_have(&stream::of(&entries).stdout) && random_lower(&entries)
     };
     println!("seed {}", (1..).find(will_do).expect("there is one"));
 }

@@ -5,13 +5,18 @@ use crate::record::{number, put_number, Record};
 use crate::rng::Rng;
 
 /// One to three faults in records drawn at random, now and then all in the
-/// same record.
+/// same record. Steps are drawn more often, since more can be wrong with one.
 pub fn spoil_records(rng: &mut Rng, edition: Edition, sheet: &mut [u8], rules: &[u8]) {
     let size = edition.record_bytes();
-    let count = sheet.len() / size;
-    let same = rng.chance(30).then(|| rng.below(count));
+    let kinds: Vec<u8> = sheet.chunks_exact(size).map(|bytes| bytes[0]).collect();
+    let steps: Vec<usize> = (0..kinds.len()).filter(|&at| kinds[at] == 2).collect();
+    let draw = |rng: &mut Rng| match !steps.is_empty() && rng.chance(60) {
+        true => rng.pick(&steps),
+        false => rng.below(kinds.len()),
+    };
+    let same = rng.chance(30).then(|| draw(rng));
     for _ in 0..rng.between(1, 3) {
-        let record = same.unwrap_or_else(|| rng.below(count));
+        let record = same.unwrap_or_else(|| draw(rng));
         let bytes = &mut sheet[record * size..(record + 1) * size];
         let lines = rules.len() / edition.line_bytes();
         spoil_record(rng, edition, bytes, record, lines);

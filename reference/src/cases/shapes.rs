@@ -3,7 +3,7 @@
 use crate::cases::backward::backward;
 use crate::cases::dense::{lattice, tower};
 use crate::cases::draft::Draft;
-use crate::cases::facts::facts;
+use crate::cases::facts::{facts, lemmas};
 use crate::cases::forward::forward;
 use crate::cases::woven::woven;
 use crate::clause::{Clause, Literal};
@@ -23,13 +23,14 @@ pub fn draw(rng: &mut Rng, edition: Edition, size: usize) -> Draft {
 fn valid(rng: &mut Rng, edition: Edition, size: usize) -> Draft {
     let variables = draw_variables(rng, edition);
     let depth_wanted = size == edition.press_records() && rng.chance(15);
-    let shape = if depth_wanted { 27 } else { rng.below(28) };
+    let shape = if depth_wanted { 34 } else { rng.below(35) };
     let mut draft = match shape {
         0..=5 => forward(rng, edition, &variables, size),
         6..=11 => backward(rng, edition, &variables, size),
         12..=14 => woven(rng, edition, &variables, size),
-        15..=22 => facts(rng, edition, size),
-        23..=26 => lattice(rng, edition, size),
+        15..=20 => facts(rng, edition, size),
+        21..=29 => lemmas(rng, edition, size),
+        30..=33 => lattice(rng, edition, size),
         _ => tower(rng, edition, &variables, size),
     };
     pad(rng, &variables, &mut draft, size);

@@ -1,5 +1,6 @@
 //! The six passes of "How a sheet is pressed", one file each (steps 1 and 4
-//! are the same pass), and the one that may come after step 4.
+//! are the same pass), and the two of which one may come after step 4 (`lower` is
+//! what both do).
 
 pub mod drops;
 pub mod lower;
@@ -7,3 +8,5 @@ pub mod order;
 pub mod rebuild;
 pub mod recycle;
 pub mod trim;
+pub mod units;
+pub mod univalents;

@@ -96,21 +96,21 @@ pub fn again() -> Worked {
 /// {+0} by two lines, and both nodes are collected. The one of line 1 comes back,
 /// and then the conclusion lacks -0 and stays.
 pub fn stays() -> Worked {
-    let rules = ["+0", "+0", "-0 +1 +2", "-0 +1 -2", "-0 -1 +2", "-0 -1 -2"];
+    let rules = ["+0", "+0", "-0 +1 +2", "-0 -1 +2", "-0 +1 -2", "-0 -1 -2"];
     let records = [
         given(0, "+0"),
         given(1, "+0"),
         given(2, "-0 +1 +2"),
         step(0, 0, 2, "+1 +2"),
-        given(3, "-0 +1 -2"),
-        step(0, 0, 4, "+1 -2"),
-        step(2, 3, 5, "+1"),
-        given(4, "-0 -1 +2"),
-        step(0, 1, 7, "-1 +2"),
+        given(3, "-0 -1 +2"),
+        step(0, 0, 4, "-1 +2"),
+        step(1, 3, 5, "+2"),
+        given(4, "-0 +1 -2"),
+        step(0, 1, 7, "+1 -2"),
         given(5, "-0 -1 -2"),
         step(0, 1, 9, "-1 -2"),
-        step(2, 8, 10, "-1"),
-        step(1, 6, 11, ""),
+        step(1, 8, 10, "-2"),
+        step(2, 6, 11, ""),
     ];
     Worked::new("stays", &rules, &records)
 }

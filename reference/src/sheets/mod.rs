@@ -1,8 +1,8 @@
 //! Sheets written by hand, each once: clauses and records in short words, the
 //! sheets of document 01 (`starred`), sheets for sentences that those do not
 //! tell apart (`telling`), sheets that tell the recyclings from each other and
-//! from wrong ones (`recycling`), sheets that tell lowering from wrong ones
-//! (`lowering`), and sheets of the wide edition (`wide`). The tests, the streams
+//! from wrong ones (`recycling`), sheets that do so for the lowerings (`lowering`,
+//! `univalents`), and sheets of the wide edition (`wide`). The tests, the streams
 //! of cases, the tables of the definitions (`tables`), the tests of the built
 //! program and the harness all take them from here.
 
@@ -10,6 +10,7 @@ pub mod lowering;
 pub mod recycling;
 pub mod starred;
 pub mod telling;
+pub mod univalents;
 pub mod wide;
 
 use crate::cases::stages::{stages, Givens};

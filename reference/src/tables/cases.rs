@@ -1,6 +1,6 @@
 //! Cases of a table: a worked sheet, and what this program makes of it.
 
-use super::terms::{bytes_term, edition, list, set};
+use super::terms::{bytes_term, edition, list, lowering, recycling, set};
 use crate::edition::Edition;
 use crate::plan::{Lowering, Recycling};
 use crate::press::press;
@@ -36,23 +36,29 @@ impl How {
 
     fn plan(self, worked: &Worked) -> String {
         let passes = match self {
-            Either => "how Nothing",
-            By(Recycling::Reset, Lowering::Nothing) => "Reset Nothing",
-            By(Recycling::Intersection, Lowering::Nothing) => "Intersection Nothing",
-            By(Recycling::Reset, Lowering::Units) => "Reset Units",
-            By(Recycling::Intersection, Lowering::Units) => "Intersection Units",
+            Either => "how Nothing".to_string(),
+            By(of, lowered) => format!("{} {}", recycling(of), lowering(lowered)),
         };
         format!("(plan {} {passes})", edition(worked.edition))
     }
 
-    /// The name of what the press writes of a sheet.
+    /// The name of what the press writes of a sheet. What comes out by the univalents
+    /// as by the units has one name.
     pub(super) fn pressed_name(self, worked: &Worked) -> String {
+        if let By(recycling, Lowering::Univalents) = self {
+            let by_units = By(recycling, Lowering::Units);
+            if by_units.pressed(worked) == self.pressed(worked) {
+                return by_units.pressed_name(worked);
+            }
+        }
         let passes = match self {
             Either => "Pressed",
             By(Recycling::Reset, Lowering::Nothing) => "Reset",
             By(Recycling::Intersection, Lowering::Nothing) => "Intersected",
             By(Recycling::Reset, Lowering::Units) => "ResetLowered",
             By(Recycling::Intersection, Lowering::Units) => "Lowered",
+            By(Recycling::Reset, Lowering::Univalents) => "ResetUnivalents",
+            By(Recycling::Intersection, Lowering::Univalents) => "Univalents",
         };
         format!("{}{passes}", worked.name)
     }

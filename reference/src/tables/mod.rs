@@ -6,12 +6,13 @@ mod cases;
 mod terms;
 
 use crate::edition::Edition::Wide;
-use crate::plan::Lowering::{Nothing, Units};
+use crate::plan::Lowering::{Nothing, Units, Univalents};
 use crate::plan::Recycling::{self, Intersection, Reset};
 use crate::sheets::lowering::*;
 use crate::sheets::recycling::*;
 use crate::sheets::starred::*;
 use crate::sheets::telling::*;
+use crate::sheets::univalents::*;
 use crate::sheets::wide::*;
 use crate::sheets::{sheet, Worked};
 use cases::How::{self, By, Either};
@@ -86,9 +87,27 @@ use Rattle.sheet.specs.declared.edition.Edition.the-variants.{Narrow, Wide}
 use Rattle.sheet.specs.Records.{given, step, Record, node, drop}
 use Rattle.sheet.specs.Fields.{sheetBytes}
 use Rattle.press_spec.specs.declared.Recycling.the-variants.{Reset, Intersection}
-use Rattle.press_spec.specs.declared.Lowering.the-variants.{Units}
+use Rattle.press_spec.specs.declared.Lowering.the-variants.{Of}
+use Rattle.press_spec.specs.declared.Lowerable.the-variants.{Units}
 use Rattle.press_spec.specs.Plans.{plan}
 use Rattle.demands.specs.Cases.{Case, accepts, allRight}
+"#;
+
+const UNIVALENTS: &str = r#"-- Sheets that tell lowering the univalents from lowering the units and from passes that look like it. Made by the second program:
+-- `reference tables`.
+use Prim.Native.Nat.{_+_, _^_}
+use mathlib.Core.List.{List, [], _∷_}
+use lib.Dec.{T}
+use Rattle.clause.specs.Clauses.{Literals, literals}
+use Rattle.sheet.specs.declared.edition.Edition.the-variants.{Narrow, Wide}
+use Rattle.sheet.specs.Records.{given, step, Record, node, drop}
+use Rattle.sheet.specs.Fields.{sheetBytes}
+use Rattle.press_spec.specs.declared.Recycling.the-variants.{Intersection}
+use Rattle.press_spec.specs.declared.Lowering.the-variants.{Of}
+use Rattle.press_spec.specs.declared.Lowerable.the-variants.{Univalents}
+use Rattle.press_spec.specs.Plans.{plan}
+use Rattle.demands.specs.Cases.{Case, accepts, allRight}
+use Rattle.demands.specs.Lowerings.{opposites, oppositesRules, stays, staysRules, fewer, fewerRules, fewerLowered}
 "#;
 
 pub fn starred() -> String {
@@ -132,12 +151,13 @@ type Told = (&'static str, Worked);
 
 /// The sheet, its rules, and what the press writes of it in each of these ways.
 fn told_of((why, worked): &Told, ways: &[How]) -> String {
-    let mut text = records_of(why, worked.name, &worked.records) + &rules_of(worked);
-    for how in ways {
-        let out = how.pressed(worked).expect("the press takes it");
-        text += &records_of("", &how.pressed_name(worked), &out);
-    }
-    text
+    let text = records_of(why, worked.name, &worked.records) + &rules_of(worked);
+    let out = |how: &How| how.pressed(worked).expect("the press takes it");
+    let named = ways.iter().map(|how| (how.pressed_name(worked), out(how)));
+    let mut named: Vec<_> = named.collect();
+    named.dedup();
+    let named = named.iter().map(|(name, out)| records_of("", name, out));
+    text + &named.collect::<String>()
 }
 
 pub fn telling() -> String {
@@ -385,19 +405,19 @@ fn parting() -> [Told; 6] {
 }
 
 pub fn lowerings() -> String {
-    let by = |recycling, told: Told| (told, vec![By(recycling, Units)]);
+    let by = |recycling| vec![By(recycling, Units)];
     let no_unit = (
         "by the reset, a node that one step names twice holds two literals, and is no unit",
         twice_again(),
     );
-    let told = lowered().into_iter().map(|told| by(Intersection, told));
-    let told: Vec<_> = told.chain([by(Reset, no_unit)]).collect();
+    let told = lowered().map(|told| (told, by(Intersection)));
+    let told: Vec<_> = told.into_iter().chain([(no_unit, by(Reset))]).collect();
     named(LOWERINGS, "lowerings", "Lowerings", &told)
 }
 
 /// Sheets that tell lowering the units from passes that look like it.
-fn lowered() -> Vec<Told> {
-    vec![
+fn lowered() -> [Told; 9] {
+    [
         (
             "two units, each used twice, come back in the order of their collection, {-1} on the right and {+0} on the left",
             everywhere(),
@@ -407,7 +427,7 @@ fn lowered() -> Vec<Told> {
             within(),
         ),
         (
-            "of two opposite units only the first is collected",
+            "of two opposite units only the first is collected, {-0}",
             opposites(),
         ),
         (
@@ -430,6 +450,68 @@ fn lowered() -> Vec<Told> {
         (
             "variables at one place of the halves, and units on them that are no opposites",
             high_everywhere(),
+        ),
+    ]
+}
+
+pub fn univalents() -> String {
+    let way = By(Intersection, Univalents);
+    let mut page = UNIVALENTS.to_string();
+    for (why, worked) in &units_too() {
+        let out = way.pressed(worked).expect("the press takes it");
+        page += &records_of(why, &way.pressed_name(worked), &out);
+    }
+    for told in &univalent() {
+        page += &told_of(told, &[way]);
+    }
+    let mut cases: Vec<_> = units_too()
+        .map(|(_, worked)| accepts(way, &worked))
+        .to_vec();
+    cases.push(accepts(way, &fewer()));
+    cases.extend(univalent().map(|(_, worked)| accepts(way, &worked)));
+    page + &table("univalents", "LoweredUnivalents", &cases)
+}
+
+/// Sheets of the units' table that come out otherwise by the univalents.
+fn units_too() -> [Told; 2] {
+    [
+        (
+            "of two opposite units the first one up is lowered, {+0}, and then -0 is in D",
+            opposites(),
+        ),
+        (
+            "the second of two nodes with one literal has its opposite in D, and stays: two steps more than by the units",
+            stays(),
+        ),
+    ]
+}
+
+/// Sheets that tell lowering the univalents from passes that look like it.
+fn univalent() -> [Told; 6] {
+    [
+        (
+            "a node of two literals is lowered, since the opposite of one was lowered before. In another order +0 would be left",
+            after(),
+        ),
+        (
+            "a node of two literals, of which the one that it is not used on lies outside D",
+            rest_outside(),
+        ),
+        (
+            "a node that is used on two literals is not lowered, though the rest of its clause lies in D: twice on the left, once on the right",
+            on_two_literals(),
+        ),
+        (
+            "node 5 as rebuilt has lost a literal that is not in D, and is lowered",
+            as_rebuilt(),
+        ),
+        (
+            "node 5 as rebuilt has lost the literal that it is used on, and is not lowered",
+            lacks_it(),
+        ),
+        (
+            "a node whose two literals lie at one place of the halves",
+            high_after(),
         ),
     ]
 }

@@ -2,6 +2,7 @@
 
 use crate::clause::Clause;
 use crate::edition::Edition;
+use crate::plan::{Lowering, Recycling};
 use crate::proof::Node;
 use crate::record::Record;
 use crate::sheets::{clause, Worked};
@@ -91,6 +92,22 @@ pub(super) fn edition(edition: Edition) -> &'static str {
     match edition {
         Edition::Narrow => "Narrow",
         Edition::Wide => "Wide",
+    }
+}
+
+pub(super) fn recycling(recycling: Recycling) -> &'static str {
+    match recycling {
+        Recycling::Reset => "Reset",
+        Recycling::Intersection => "Intersection",
+    }
+}
+
+/// Nothing, or what is lowered, as the argument of a function.
+pub(super) fn lowering(lowering: Lowering) -> &'static str {
+    match lowering {
+        Lowering::Nothing => "Nothing",
+        Lowering::Units => "(Of Units)",
+        Lowering::Univalents => "(Of Univalents)",
     }
 }
 

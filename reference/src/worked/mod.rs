@@ -27,34 +27,35 @@ fn unshown(entries: Vec<Entry>) -> Vec<Entry> {
     entries.into_iter().map(hide).collect()
 }
 
-/// The cases that both editions have. Of the many sheets with one byte changed
-/// not all are shown, so that the stream stays short.
+/// The cases that both editions have. Not all of the many replays are shown, so
+/// that the stream stays short: of the wide edition only those of "Sheets to try".
 fn of_both(edition: Edition) -> Vec<Entry> {
-    let fields = records::fields(edition);
+    let shown = |entries| match edition {
+        Edition::Narrow => entries,
+        Edition::Wide => unshown(entries),
+    };
     [
         listed::presses(edition),
         listed::replays(edition),
         listed::pivot_and_forward(edition),
         listed::limits(edition),
-        records::lengths(edition),
-        match edition {
-            Edition::Narrow => fields,
-            Edition::Wide => unshown(fields),
-        },
+        shown(records::lengths(edition)),
+        shown(records::fields(edition)),
         unshown(records::bytes_of_a_drop(edition)),
-        records::full_row(edition),
-        records::results(edition),
-        records::rule_lines(edition),
-        records::both_ways(edition),
-        records::drops(edition),
-        records::ends(edition),
-        records::drops_for_the_press(edition),
+        shown(records::full_row(edition)),
+        shown(records::results(edition)),
+        shown(records::rule_lines(edition)),
+        shown(records::both_ways(edition)),
+        shown(records::drops(edition)),
+        shown(records::ends(edition)),
+        shown(records::drops_for_the_press(edition)),
         passes::slips(edition),
         passes::stand_ins(edition),
         passes::orders(edition),
         passes::cuts(edition),
         passes::recyclings(edition),
-        passes::lowerings(edition),
+        passes::units(edition),
+        passes::univalents(edition),
     ]
     .concat()
 }

@@ -6,6 +6,7 @@ use crate::plan::{Lowering, Recycling};
 use crate::sheets::lowering::*;
 use crate::sheets::recycling::*;
 use crate::sheets::telling::*;
+use crate::sheets::univalents::*;
 use crate::sheets::Worked;
 use crate::stream::Entry;
 
@@ -58,17 +59,20 @@ pub fn recyclings(edition: Edition) -> Vec<Entry> {
     sheets.into_iter().flat_map(press).collect()
 }
 
+/// Presses by this lowering: by the reset, and by the intersection.
+fn lowering(lowering: Lowering, reset: &[Worked], intersection: &[Worked]) -> Vec<Entry> {
+    let press = |recycling| move |worked: &Worked| press_lowering(worked, recycling, lowering);
+    let reset = reset.iter().map(press(Recycling::Reset));
+    let intersection = intersection.iter().map(press(Recycling::Intersection));
+    reset.chain(intersection).collect()
+}
+
 /// "Lower the units." In the wide edition only what is about its variables.
-pub fn lowerings(edition: Edition) -> Vec<Entry> {
-    let press = |recycling: Recycling, worked: Worked| {
-        press_lowering(&worked.in_edition(edition), recycling, Lowering::Units)
-    };
-    let by_reset = |worked| press(Recycling::Reset, worked);
-    let by = |worked| press(Recycling::Intersection, worked);
-    match edition {
-        Edition::Narrow => {
-            let reset = [needless(), sharper(), twice_again()];
-            let sheets = [
+pub fn units(edition: Edition) -> Vec<Entry> {
+    let (reset, intersection) = match edition {
+        Edition::Narrow => (
+            vec![needless(), sharper(), twice_again()],
+            vec![
                 everywhere(),
                 within(),
                 opposites(),
@@ -78,10 +82,30 @@ pub fn lowerings(edition: Edition) -> Vec<Entry> {
                 merged(),
                 fewer(),
                 third_trim(),
-            ];
-            let reset = reset.into_iter().map(by_reset);
-            reset.chain(sheets.into_iter().map(by)).collect()
-        }
-        Edition::Wide => [high_everywhere(), one_in_each_half()].map(by).to_vec(),
-    }
+            ],
+        ),
+        Edition::Wide => (vec![], vec![high_everywhere(), one_in_each_half()]),
+    };
+    lowering(Lowering::Units, &reset, &intersection)
+}
+
+/// "Lower the univalents." In the wide edition only what is about its variables.
+pub fn univalents(edition: Edition) -> Vec<Entry> {
+    let (reset, intersection) = match edition {
+        Edition::Narrow => (
+            vec![twice_again()],
+            vec![
+                after(),
+                rest_outside(),
+                on_two_literals(),
+                opposites(),
+                stays(),
+                as_rebuilt(),
+                lacks_it(),
+                fewer(),
+            ],
+        ),
+        Edition::Wide => (vec![], vec![high_after(), one_in_each_half()]),
+    };
+    lowering(Lowering::Univalents, &reset, &intersection)
 }

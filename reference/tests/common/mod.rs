@@ -4,8 +4,11 @@
 #![allow(dead_code, unused_imports)] // each test file uses its own part of this module
 
 use reference::cases::draft::Draft;
+use reference::clause::Clause;
 pub use reference::edition::Edition::{self, Narrow, Wide};
-pub use reference::plan::Lowering::{self, Nothing, Units};
+pub use reference::passes::lower::Lowered;
+pub use reference::passes::lower::Return::{self, NewStep, Stays};
+pub use reference::plan::Lowering::{self, Nothing, Units, Univalents};
 pub use reference::plan::Plan;
 pub use reference::plan::Recycling::{self, Intersection, Reset};
 use reference::press::{press, read_proof, run_passes, Passes, Pressed};
@@ -32,6 +35,36 @@ pub fn passes_by(recycling: Recycling, worked: &Worked) -> Passes {
 pub fn passes_lowering(recycling: Recycling, lowering: Lowering, worked: &Worked) -> Passes {
     let proof = read_proof(worked.edition, &worked.sheet(), &worked.table());
     run_passes(worked.plan(recycling, lowering), proof.unwrap())
+}
+
+pub fn lowered(passes: &Passes) -> &Lowered {
+    passes.lowered.as_ref().expect("something may be lowered")
+}
+
+/// What is lowered, in the order of its return, and what became of it.
+pub fn low(passes: &Passes) -> Vec<(usize, Clause, Return)> {
+    let Lowered { low, returns, .. } = lowered(passes);
+    let told = low.iter().zip(returns);
+    told.map(|(low, &back)| (low.node, Clause::from_iter([low.literal]), back))
+        .collect()
+}
+
+pub fn low_one(node: usize, literal: &str, back: Return) -> (usize, Clause, Return) {
+    (node, clause(literal), back)
+}
+
+/// The stand-ins of some nodes once the lowered ones are cut away.
+pub fn stand_ins<const N: usize>(passes: &Passes, nodes: [usize; N]) -> [usize; N] {
+    nodes.map(|node| lowered(passes).rebuilt.stand_ins[&node])
+}
+
+/// The steps that are left with each of these lowered.
+pub fn steps_lowering<const N: usize>(
+    recycling: Recycling,
+    lowerings: [Lowering; N],
+    worked: &Worked,
+) -> [usize; N] {
+    lowerings.map(|of| passes_lowering(recycling, of, worked).pressed.steps())
 }
 
 /// The presses of random proofs of a shape, as far as they are good: now and then a
