@@ -20,6 +20,12 @@ unfolding rise
 rise-by P f zero s k h = h
 rise-by P f (suc n) s k h = k n (rise f n s) (omega arith) (rise-by P f n s (λ i t l. k i t (omega arith)) h)
 
+-- the same turns come to the same
+pub rise-same : {S : Type 0} (f g : ℕ → S → S) (n : ℕ) (s : S) → ((i : ℕ) (t : S) → i < n → f i t ≡ g i t) → rise f n s ≡ rise g n s
+unfolding rise
+rise-same f g zero s e = refl
+rise-same f g (suc n) s e = ap (f n) (rise-same f g n s (λ i t h. e i t (omega arith))) ∙ e n (rise g n s) (omega arith)
+
 pub fall-none : {S : Type 0} (f : ℕ → S → S) (s : S) → fall f 0 s ≡ s
 unfolding fall
 fall-none f s = refl

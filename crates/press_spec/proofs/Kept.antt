@@ -13,17 +13,20 @@ use Rattle.sheet.specs.Editions.{variables}
 use Rattle.sheet.specs.Records.{Node, clause, nodeAt}
 use Rattle.sheet.specs.Counts.{stepsOf}
 use Rattle.press_spec.specs.declared.Recycling.{Recycling}
+use Rattle.press_spec.specs.declared.Lowerable.{Lowerable}
+use Rattle.press_spec.specs.declared.Lowerable.the-variants.{Units, Univalents}
 use Rattle.press_spec.specs.declared.Lowering.{Lowering}
-use Rattle.press_spec.specs.declared.Lowering.the-variants.{Nothing, Units}
+use Rattle.press_spec.specs.declared.Lowering.the-variants.{Nothing, Of}
 use Rattle.press_spec.specs.declared.Plan.{Plan}
 use Rattle.press_spec.specs.Links.{link, links, sink}
 use Rattle.press_spec.specs.Trim.{usesFrom}
 use Rattle.press_spec.specs.Plans.{plan}
 use Rattle.press_spec.specs.Recycle.{Reach, unreached, reached, Fit, fitOf, Fate, fates}
 use Rattle.press_spec.specs.Rebuild.{Built, standIn, standing, rebuild, Ended, endedAt}
-use Rattle.press_spec.specs.Lower.{Lowered, lowered, unitConcludes, returnOf, Back}
-use Rattle.press_spec.specs.Units.{unitsLow, unitsBuilt, lowerUnits}
-use Rattle.press_spec.specs.Press.{conclusion, reaches, recycled, shortened, lowerBy, arranged, chosenFit, concluded, pressedFrom, pressed}
+use Rattle.press_spec.specs.Lower.{Lowered, lowered, lowAt, unitConcludes, returnOf, Back}
+use Rattle.press_spec.specs.Units.{unitsBuilt}
+use Rattle.press_spec.specs.Lowerings.{lowsOf, builtOf, lowerOf, lowerBy}
+use Rattle.press_spec.specs.Press.{conclusion, reaches, recycled, shortened, arranged, chosenFit, concluded, pressedFrom, pressed}
 use Rattle.press_spec.proofs.Proper.{AllProper, Kept}
 use Rattle.press_spec.proofs.Nodes.{Falling, links-falling, proper-falling}
 use Rattle.press_spec.proofs.Rebuilt.{Rebuilding, rebuilt, IsKept, StandsIn, standIn-sound, standIn-below}
@@ -37,6 +40,7 @@ use Rattle.press_spec.proofs.Returned.{Lowers, unit-never-concludes}
 use Rattle.press_spec.proofs.Shortened.{half-more}
 use Rattle.press_spec.proofs.Lowered.{lowering-ending, lowering-shortens}
 use Rattle.press_spec.proofs.Units.{units-lower}
+use Rattle.press_spec.proofs.Univalents.{univalents-lower}
 
 pub sink-inside : (s : List Node) → 1 ≤ length s → sink s < length s
 unfolding sink
@@ -130,38 +134,46 @@ module _ (e : Edition) (how : Recycling) (rules : List ℕ) (s : List Node) (pro
   unfolding shortened recycled endedAt
   four-long = rebuilt s _ (proper-falling e rules s proper) .nodes-long
 
-  abbrev low : ℕ → Lowered
-  low = unitsLow (variables e) four
+  abbrev low : Lowerable → ℕ → Lowered
+  low which = lowAt (lowsOf which (variables e) four)
 
-  abbrev builtOf : Built
-  builtOf = unitsBuilt (variables e) four
+  abbrev so : Lowerable → Built
+  so which = builtOf which (variables e) four
 
-  units : Lowers (four .nodes) (four .last) low builtOf
-  units = units-lower e rules (variables e) (four .nodes) (four .last) (ending-concludes e rules s four _ four-ending)
+  -- each pass of lowering is one
+  lowers : (which : Lowerable) → Lowers (four .nodes) (four .last) (low which) (so which)
+  unfolding lowsOf builtOf unitsBuilt
+  lowers Units = units-lower e rules (variables e) (four .nodes) (four .last) (ending-concludes e rules s four _ four-ending)
+  lowers Univalents = univalents-lower e rules (four .nodes) (four .last) (ending-concludes e rules s four _ four-ending)
 
   low-kept : (w : Lowering) → Kept e rules s (arranged (lowerBy w (variables e) four))
-  unfolding lowerBy lowerUnits
+  unfolding lowerBy lowerOf
   low-kept Nothing = ending-kept e rules s four _ four-ending
-  low-kept Units = ending-kept e rules s _ _ (lowering-ending e rules s four _ four-ending low builtOf units)
+  low-kept (Of which) = ending-kept e rules s _ _ (lowering-ending e rules s four _ four-ending (low which) (so which) (lowers which))
 
   low-shorter : (w : Lowering) → stepsOf (arranged (lowerBy w (variables e) four)) ≤ stepsOf (arranged four)
-  unfolding lowerBy lowerUnits
+  unfolding lowerBy lowerOf
   low-shorter Nothing = omega arith
-  low-shorter Units = omega (arith, lowering-shortens e rules s four _ four-ending low builtOf units)
+  low-shorter (Of which) = omega (arith, lowering-shortens e rules s four _ four-ending (low which) (so which) (lowers which))
 
   low-numbers : (w : Lowering) → 2 * length (lowerBy w (variables e) four .nodes) ≤ 3 * length s
-  unfolding lowerBy lowerUnits
+  unfolding lowerBy lowerOf
   low-numbers Nothing = omega (arith, four-long)
-  low-numbers Units =
-      omega (arith, half-more e rules (four .nodes) (four .last) (ending-concludes e rules s four _ four-ending) low builtOf units, four-long)
+  low-numbers (Of which) = omega (
+    arith,
+    half-more e rules (four .nodes) (four .last) (ending-concludes e rules s four _ four-ending) (low which) (so which) (lowers which),
+    four-long,
+  )
 
   -- the middle case of the return never comes up
-  pub no-unit-concludes : (i : ℕ) (t : Ended) (x : Literal)
+  pub no-unit-concludes : (which : Lowerable) (i : ℕ) (t : Ended) (x : Literal)
       → let four = shortened (fitOf how (usesFrom (links s) (sink s))) (conclusion s) s in
-      let b = unitsBuilt (variables e) four in
-      Back (unitsLow (variables e) four) b (four .last) (suc i) t → unitsLow (variables e) four i ≡ lowered x
+      let low = lowAt (lowsOf which (variables e) four) in
+      let b = builtOf which (variables e) four in
+      Back low b (four .last) (suc i) t → low i ≡ lowered x
       → returnOf x (clause (nodeAt (t .nodes) (standIn b i))) (clause (nodeAt (t .nodes) (t .last))) ≡ unitConcludes → ⊥
-  no-unit-concludes = unit-never-concludes e rules (four .nodes) (four .last) (ending-concludes e rules s four _ four-ending) low builtOf units
+  no-unit-concludes which =
+      unit-never-concludes e rules (four .nodes) (four .last) (ending-concludes e rules s four _ four-ending) (low which) (so which) (lowers which)
 
 module _ (plan : Plan) (rules : List ℕ) (s : List Node) (proper : AllProper (plan .edition) rules s) (full : 1 ≤ length s) where
   -- "Demand 3 holds for each choice."

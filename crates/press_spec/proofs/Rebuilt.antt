@@ -35,7 +35,7 @@ Renewed b n (step p l r c) (kept z) = ByWay b (wayOf z p (standing b l) (standin
 
 -- ---- what a change at number i leaves alone
 
-record Changes (i : ℕ) (b b′ : Built) : Type 0 where
+pub record Changes (i : ℕ) (b b′ : Built) : Type 0 where
   nodes-long : length (b′ .nodes) ≡ length (b .nodes)
   standIns-long : length (b′ .standIns) ≡ length (b .standIns)
   standIn-other : (n : ℕ) → n ≢ i → standIn b′ n ≡ standIn b n
@@ -62,8 +62,21 @@ changes-newStep i p l r b = record {
   node-other = λ n h. getD-set-other (b .nodes) i n _ _ h;
 }
 
+changes-way : (w : Way) (i p l r : ℕ) (b : Built) → Changes i b (byWay w i p l r b)
+unfolding byWay
+changes-way takeLeft i p l r b = changes-standsFor i (standIn b l) b
+changes-way takeRight i p l r b = changes-standsFor i (standIn b r) b
+changes-way stepAnew i p l r b = changes-newStep i p l r b
+
+-- a turn changes nothing but its own number
+pub changes-renew : (i : ℕ) (m : Node) (z : Fate) (b : Built) → Changes i b (renew i m z b)
+unfolding renew
+changes-renew i m lost b = changes-none i b
+changes-renew i (given line c) (kept z) b = changes-standsFor i i b
+changes-renew i (step p l r c) (kept z) b = changes-way (wayOf z p (standing b l) (standing b r)) i p l r b
+
 module _ (i : ℕ) (b b′ : Built) (ch : Changes i b b′) (low : (n : ℕ) → standIn b n ≤ n) where
-  standing-other : (n : ℕ) → n < i → standing b′ n ≡ standing b n
+  pub standing-other : (n : ℕ) → n < i → standing b′ n ≡ standing b n
   unfolding standing
   standing-other n h = rw (ch .standIn-other n (omega arith)) (ap clause (ch .node-other (standIn b n) (omega (arith, low n))))
 

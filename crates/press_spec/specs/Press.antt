@@ -8,8 +8,6 @@ use Rattle.sheet.specs.declared.Reason.{Reason}
 use Rattle.sheet.specs.declared.Verdict.{Verdict}
 use Rattle.sheet.specs.declared.Verdict.the-variants.{Fine, Refused}
 use Rattle.sheet.specs.declared.edition.Edition.{Edition}
-use Rattle.press_spec.specs.declared.Lowering.{Lowering}
-use Rattle.press_spec.specs.declared.Lowering.the-variants.{Nothing, Units}
 use Rattle.press_spec.specs.declared.Plan.{Plan}
 use Rattle.sheet.specs.Editions.{variables}
 use Rattle.sheet.specs.Reasons.{numberOf}
@@ -21,7 +19,7 @@ use Rattle.press_spec.specs.Judge.{Sizes, sizes, checkPress, Judged, pro
 use Rattle.press_spec.specs.Trim.{usesFrom}
 use Rattle.press_spec.specs.Recycle.{Fit, Reach, fitOf, recycle, fates}
 use Rattle.press_spec.specs.Rebuild.{Built, rebuild, Ended, endedAt}
-use Rattle.press_spec.specs.Units.{lowerUnits}
+use Rattle.press_spec.specs.Lowerings.{lowerBy}
 use Rattle.press_spec.specs.Order.{orderFrom, laid}
 use Rattle.press_spec.specs.Drops.{withDrops, markLines, total}
 
@@ -36,11 +34,6 @@ recycled fit S s = rebuild s (fates (links s) (reaches fit S s))
 -- 4 starts from the sink's stand-in
 unfoldable pub shortened : Fit → Literals → List Node → Ended
 shortened fit S s = endedAt (recycled fit S s) (sink s)
-
--- after 4, by the pass chosen, over v variables
-unfoldable pub lowerBy : Lowering → ℕ → Ended → Ended
-lowerBy Nothing v t = t
-lowerBy Units v t = lowerUnits v t
 
 -- 4 and 5: from the conclusion
 unfoldable pub arranged : Ended → List Node

@@ -10,7 +10,7 @@ use Rattle.sheet.specs.Records.{Node, clause, nodeAt}
 use Rattle.press_spec.specs.Links.{links}
 use Rattle.press_spec.specs.Trim.{trim, usesFrom}
 use Rattle.press_spec.specs.Rebuild.{Built, rebuild, Ended}
-use Rattle.press_spec.specs.Lower.{Lowered, staying, lowered, single, LoweredOnes, noneLowered, lower, lowAt, fatesBy, comeBackAll}
+use Rattle.press_spec.specs.Lower.{Lowered, staying, lowered, single, LoweredOnes, noneLowered, lower, lowAt, fatesBy}
 
 -- "Collect each node whose clause is a single literal, that has two or more uses, and whose literal's opposite hasn't been collected."
 -- (Owed are the opposites of what was collected: l is owed exactly if its opposite was.)
@@ -25,11 +25,6 @@ collectTurn v s count n w = collect n (count n) (single v (clause (nodeAt s n)))
 unfoldable pub collected : ℕ → Ended → LoweredOnes
 collected v t = fall (collectTurn v (t .nodes) (usesFrom (links (t .nodes)) (t .last))) (suc (t .last)) (noneLowered (length (t .nodes)))
 
-abbrev pub unitsLow : ℕ → Ended → ℕ → Lowered
-unitsLow v t = lowAt (collected v t .low)
-
-abbrev pub unitsBuilt : ℕ → Ended → Built
-unitsBuilt v t = let s = links (t .nodes) in rebuild (t .nodes) (fatesBy (trim s (t .last)) (unitsLow v t) s)
-
-unfoldable pub lowerUnits : ℕ → Ended → Ended
-lowerUnits v t = comeBackAll (unitsLow v t) (unitsBuilt v t) (t .last)
+-- "Uses of collected nodes are cut; the rebuild rule of 01 follows, over all nodes."
+unfoldable pub unitsBuilt : ℕ → Ended → Built
+unitsBuilt v t = let s = links (t .nodes) in rebuild (t .nodes) (fatesBy (trim s (t .last)) (lowAt (collected v t .low)) s)
