@@ -1,2 +1,3 @@
 pub mod Searched
 pub mod Tabled
+pub mod Edges

@@ -6,7 +6,7 @@ use native.Mathlib.Numerals.{sub-one}
 use native.Mathlib.Omega.{arith}
 use Rattle.clause.specs.Clauses.{Literal, plus, minus, Literals, none, adding, alike}
 use Rattle.clause.specs.Denote.{width}
-use Rattle.press_spec.specs.Lower.{staying, lowered, single}
+use Rattle.press_spec.specs.Lower.{opposite, staying, lowered, single}
 use Rattle.press_lowered.specs.Literals.{Narrow}
 
 -- ---- the loop, with i variables left to try
@@ -53,3 +53,8 @@ unfolding single
 single-narrow zero c x h q = let z : _≡_ {A = ℕ} 0 1 = cc in absurd (omega arith)
 single-narrow (suc w) c x h q =
     narrow-cases w c x (alike c (adding (plus w) none)) (alike c (adding (minus w) none)) (omega arith) (single-narrow w c x (omega arith)) q
+
+pub opposite-narrow : (x : Literal) → Narrow x → Narrow (opposite x)
+unfolding opposite
+opposite-narrow (plus v) h = h
+opposite-narrow (minus v) h = h

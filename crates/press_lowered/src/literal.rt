@@ -1,6 +1,6 @@
 // Literals, each a value of its own.
 ghost use mathlib.Core.Path.{_≡_};
-ghost use Rattle.clause.specs.Clauses.{none, holds, adding, alike};
+ghost use Rattle.clause.specs.Clauses.{sameLiteral, none, holds, adding, lacking, alike};
 ghost use Rattle.clause.specs.Denote.{literalsOf};
 ghost use Rattle.press_spec.specs.Lower.{opposite};
 ghost use Rattle.press_lowered.specs.Literals.{literalIn, Narrow};
@@ -18,6 +18,21 @@ pub fn opposite(l: Literal) -> Literal
     match l {
         Literal::Plus(v) => Literal::Minus(v),
         Literal::Minus(v) => Literal::Plus(v),
+    }
+}
+
+pub fn same(l: Literal, m: Literal) -> bool
+    ensures { λ r. ⌜ r ≡ sameLiteral (literalIn l) (literalIn m) ⌝ }
+{
+    match l {
+        Literal::Plus(u) => match m {
+            Literal::Plus(v) => u == v,
+            Literal::Minus(_) => false,
+        },
+        Literal::Minus(u) => match m {
+            Literal::Plus(_) => false,
+            Literal::Minus(v) => u == v,
+        },
     }
 }
 
@@ -39,6 +54,24 @@ pub fn adding(l: Literal, c: Clause) -> Clause
     match l {
         Literal::Plus(v) => edges::with_plus(c, v),
         Literal::Minus(v) => edges::with_minus(c, v),
+    }
+}
+
+// c without l.
+pub fn lacking(l: Literal, c: Clause) -> Clause
+    ensures { λ r. ⌜ literalsOf r ≡ lacking (literalIn l) (literalsOf c) ⌝ }
+{
+    let positive = c.positive;
+    let negative = c.negative;
+    match l {
+        Literal::Plus(v) => Clause {
+            positive: clause::without(positive, v),
+            negative,
+        },
+        Literal::Minus(v) => Clause {
+            positive,
+            negative: clause::without(negative, v),
+        },
     }
 }
 

@@ -96,7 +96,7 @@ module _ (h c : List ℕ) (tables : Nodes h c) (says : ℕ → Fate) where
   rebuild-start u cleared q e = rw (e, q, long)
 
   module _ (i : ℕ) (t : List Node) (u : List ℕ) (e : built t u ≡ after i) where
-    same-node : i < length h → nodeAt t i ≡ nodeAt s i
+    pub same-node : i < length h → nodeAt t i ≡ nodeAt s i
     same-node o = ap (λ (b : Built). nodeAt (b .nodes) i) e ∙ so-far i (omega arith) .ahead i (omega arith)
 
     pub standIns-low : (n : ℕ) → i ≤ length h → n ≡ length h → StandIns n u

@@ -1,3 +1,3 @@
 // 1. Trim, and the uses of each node in what is kept. Both read links alone.
-mod trim;
+pub mod trim;
 pub mod uses;

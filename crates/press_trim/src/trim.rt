@@ -29,7 +29,7 @@ fn trim_turn(links: &[u64], n: NodeNo, kept: &mut [u8])
 }
 
 // 1 for each node that `from` reaches, 0 for each other.
-pub(crate) fn trim(links: &[u64], from: NodeNo, kept: &mut [u8])
+pub fn trim(links: &[u64], from: NodeNo, kept: &mut [u8])
     requires { ⌜ Links (now links) ⌝ }
     requires { ⌜ (length (now kept) ≡ length (now links)) × (from .0 < length (now links)) ⌝ }
     ensures { λ _. ⌜ now (kept .exit) ≡ trim (linksIn (now (links .entry))) (from .0) ⌝ }

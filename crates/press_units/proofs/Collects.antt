@@ -10,7 +10,7 @@ use lib.ListN.{length, getD, set, replicate}
 use borrow.Author.Tests.{le-leb, lt-leb}
 use Rattle.base.specs.Folds.{fall}
 use Rattle.base.proofs.Folds.{fall-all, fall-same}
-use Rattle.clause.specs.Clauses.{Literal, plus, minus, Literals, none, holds, adding}
+use Rattle.clause.specs.Clauses.{Literals, none, holds, adding}
 use Rattle.clause.specs.Denote.{width}
 use Rattle.press_spec.specs.Lower.{Lowered, staying, lowered, opposite, single, LoweredOnes, loweredOnes, noneLowered, lower}
 use Rattle.press_spec.specs.Units.{collect, collectTurn}
@@ -24,11 +24,6 @@ use Rattle.press_lowered.specs.Table.{loweredIn, lowIn}
 use Rattle.press_lowered.proofs.Searched.{single-narrow}
 use Rattle.press_lowered.proofs.Tabled.{low-blank}
 use Rattle.press_units.specs.Turns.{collectIn}
-
-pub opposite-narrow : (x : Literal) → Narrow x → Narrow (opposite x)
-unfolding opposite
-opposite-narrow (plus v) h = h
-opposite-narrow (minus v) h = h
 
 pub found-narrow : (v : ℕ) (c : Literals) {x : CodeLowered} {y : CodeLiteral} → loweredIn x ≡ single v c → x ≡ With y → v ≤ width → Narrow (literalIn y)
 unfolding loweredIn

@@ -1,6 +1,5 @@
 -- The cuts, node by node: at turn i the nodes before i have their fates, and the others still have their marks.
 use Prim.Native.Nat.{ℕ, suc, _≤_, _<_}
-use mathlib.Core.Bool.{true, false}
 use mathlib.Core.List.{List}
 use mathlib.Core.Path.{_≡_, refl, ap, _∙_}
 use native.Mathlib.Decide.{ℕ-discrete, decLt}
@@ -10,33 +9,13 @@ use lib.Seq.{getD-set-same, getD-set-other}
 use borrow.Author.Tests.{eq-eqb, ne-eqb}
 use Rattle.base.specs.Folds.{rise}
 use Rattle.base.proofs.Folds.{rise-by}
-use Rattle.press_spec.specs.Links.{Link, leaf, join, linkAt}
-use Rattle.press_spec.specs.Recycle.{Cut, cutLeft, cutRight, uncut}
-use Rattle.press_spec.specs.Lower.{Lowered, isLowered, cutBy, fateBy, fatesBy}
+use Rattle.press_spec.specs.Links.{Link, linkAt}
+use Rattle.press_spec.specs.Recycle.{Cut}
+use Rattle.press_spec.specs.Lower.{Lowered, cutBy, fateBy, fatesBy}
 use Rattle.press_nodes.specs.Tables.{linksIn}
 use Rattle.press_nodes.specs.Fates.{cutByte, fateOf, fatesIn}
 use Rattle.press_nodes.proofs.Fated.{fate-byte}
 use Rattle.press_units.specs.Turns.{cutTurn}
-
--- ---- the edge that is cut
-
-module _ (low : ℕ → Lowered) (m : Link) where
-  pub cut-leaf : (line : ℕ) → m ≡ leaf line → uncut ≡ cutBy low m
-  unfolding cutBy
-  cut-leaf line e = rw e
-
-  module _ (p l r : ℕ) (e : m ≡ join p l r) where
-    pub cuts-left : isLowered (low l) ≡ true → cutLeft ≡ cutBy low m
-    unfolding cutBy
-    cuts-left h = rw (e, h)
-
-    pub cuts-right : isLowered (low l) ≡ false → isLowered (low r) ≡ true → cutRight ≡ cutBy low m
-    unfolding cutBy
-    cuts-right h g = rw (e, h, g)
-
-    pub cuts-none : isLowered (low l) ≡ false → isLowered (low r) ≡ false → uncut ≡ cutBy low m
-    unfolding cutBy
-    cuts-none h g = rw (e, h, g)
 
 -- ---- one turn
 

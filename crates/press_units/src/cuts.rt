@@ -2,37 +2,14 @@
 ghost use mathlib.Core.Path.{_≡_};
 ghost use Prim.Native.Nat.{_<_};
 ghost use lib.ListN.{length};
-ghost use Rattle.press_spec.specs.Links.{linkAt};
-ghost use Rattle.press_spec.specs.Lower.{lowAt, cutBy, fatesBy};
+ghost use Rattle.press_spec.specs.Lower.{lowAt, fatesBy};
 ghost use Rattle.press_nodes.specs.Tables.{linksIn, Links};
-ghost use Rattle.press_nodes.specs.Fates.{cutIn, fatesIn};
+ghost use Rattle.press_nodes.specs.Fates.{fatesIn};
 ghost use Rattle.press_lowered.specs.Table.{lowIn};
 ghost use Rattle.press_units.specs.Turns.{cutTurn};
-use press_lowered::table;
+use press_lowered::edge;
 use press_nodes::fate;
-use press_nodes::fate::Cut;
-use press_nodes::link;
-use press_nodes::link::Link;
 use sheet::NodeNo;
-
-// The edge of node n that is cut: no step has both parents lowered (`never-both`).
-fn cut_of(links: &[u64], low: &[u16], n: NodeNo) -> Cut
-    requires { ⌜ Links (now links) ⌝ }
-    requires { ⌜ (length (now low) ≡ length (now links)) × (n .0 < length (now links)) ⌝ }
-    ensures { λ r. ⌜ cutIn r ≡ cutBy (lowAt (lowIn (now (low .entry)))) (linkAt (linksIn (now (links .entry))) (n .0)) ⌝ }
-{
-    let found = link::link_at(links, n);
-    let Link::Join { left, right, .. } = found else {
-        return Cut::None;
-    };
-    if table::is_lowered(low, left) {
-        return Cut::Left;
-    }
-    if table::is_lowered(low, right) {
-        return Cut::Right;
-    }
-    Cut::None
-}
 
 // The turn at node n: its fate, if it is kept.
 fn cut_turn(links: &[u64], low: &[u16], n: NodeNo, fates: &mut [u8])
@@ -44,7 +21,7 @@ fn cut_turn(links: &[u64], low: &[u16], n: NodeNo, fates: &mut [u8])
     if fates[i] == fate::LOST {
         return;
     }
-    let cut = cut_of(links, low, n);
+    let cut = edge::cut_of(links, low, n);
     fate::put_fate(fates, n, cut);
 }
 

@@ -2,7 +2,8 @@ use mathlib.Core.Path.{sym, _∙_}
 use native.Mathlib.Omega.{arith}
 use Rattle.press_spec.specs.Lower.{opposite}
 use Rattle.clause.specs.Clauses.{adding}
-use Rattle.press_units.proofs.Collects.{collect-few, collect-staying, found-narrow, collect-owed, collect-lowers, opposite-narrow}
+use Rattle.press_lowered.proofs.Searched.{opposite-narrow}
+use Rattle.press_units.proofs.Collects.{collect-few, collect-staying, found-narrow, collect-owed, collect-lowers}
 use borrow.Author.Needs.{needs}
 use Rattle.press_units.proofs.collect.collect_turn.Statement.{statement}
 use Rattle.press_units.proofs.collect.collect_turn.Tie as tie

@@ -13,7 +13,7 @@ returns : tie.Need-returns
 returns c = search turn-past
 
 cut-of-requires : tie.Need-cut-of-requires
-cut-of-requires c κs = search needs
+cut-of-requires c κs = let st = c .before .before .before .before .before .before in (st .pre .1 .2, st .pre .0 .sound _ (st .pre .1 .2), st .pre .1 .0)
 
 put-fate-requires : tie.Need-put-fate-requires
 put-fate-requires c κs = search needs

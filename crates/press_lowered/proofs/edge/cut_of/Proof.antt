@@ -1,14 +1,14 @@
 use mathlib.Core.Path.{sym, _∙_}
 use native.Mathlib.Omega.{arith}
 use Rattle.press_nodes.specs.Fates.{cutIn}
-use Rattle.press_nodes.proofs.Found.{found-leaf, found-join, found-sound}
-use Rattle.press_units.proofs.Cuttings.{cut-leaf, cuts-left, cuts-right, cuts-none}
+use Rattle.press_nodes.proofs.Found.{found-leaf, found-join}
+use Rattle.press_lowered.proofs.Edges.{cut-leaf, cuts-left, cuts-right, cuts-none}
 use borrow.Author.Needs.{needs}
-use Rattle.press_units.proofs.cuts.cut_of.Statement.{statement}
-use Rattle.press_units.proofs.cuts.cut_of.Tie as tie
+use Rattle.press_lowered.proofs.edge.cut_of.Statement.{statement}
+use Rattle.press_lowered.proofs.edge.cut_of.Tie as tie
 
 link-at-requires : tie.Need-link-at-requires
-link-at-requires c κs = let st = c .before .before in st .pre .1 .1
+link-at-requires c κs = search needs
 
 enum-known-found : tie.Need-enum-known-found
 enum-known-found c = search needs
@@ -22,8 +22,8 @@ returns c = cut-leaf _ _ _ (found-leaf _ _ _ (c .before .before .link-at .ensure
 
 is-lowered-requires : tie.Need-is-lowered-requires
 is-lowered-requires c κs = let st = c .before .before .before .before .before .before in
-    let o = found-sound _ _ _ _ _ _ (st .pre .0) (st .pre .1 .1) (c .before .before .before .link-at .ensures) (c .before .found .given .1) in
-    omega (arith, o .1, st .pre .1 .0, st .pre .1 .1)
+    let o = rw (found-join _ _ _ _ _ (c .before .before .before .link-at .ensures) (c .before .found .given .1)) at (st .pre .1) in
+    omega (arith, o .1, st .pre .0, st .pre .2)
 
 returns-2 : tie.Need-returns-2
 unfolding cutIn
@@ -31,8 +31,8 @@ returns-2 c = cuts-left _ _ _ _ _ (found-join _ _ _ _ _ (c .before .before .befo
 
 is-lowered-requires-2 : tie.Need-is-lowered-requires-2
 is-lowered-requires-2 c κs = let st = c .before .before .before .before .before .before .before .before in
-    let o = found-sound _ _ _ _ _ _ (st .pre .0) (st .pre .1 .1) (c .before .before .before .before .before .link-at .ensures) (c .before .before .before .found .given .1) in
-    omega (arith, o .2, st .pre .1 .0, st .pre .1 .1)
+    let o = rw (found-join _ _ _ _ _ (c .before .before .before .before .before .link-at .ensures) (c .before .before .before .found .given .1)) at (st .pre .1) in
+    omega (arith, o .2, st .pre .0, st .pre .2)
 
 returns-3 : tie.Need-returns-3
 unfolding cutIn

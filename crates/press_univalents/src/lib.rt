@@ -1,0 +1,3 @@
+// Lower the univalents (001): which are lowered, rebuilding on the way.
+pub mod rise;
+mod weigh;
