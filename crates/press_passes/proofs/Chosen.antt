@@ -4,13 +4,14 @@ use mathlib.Core.List.{List}
 use mathlib.Core.Path.{_≡_, sym, ap}
 use Rattle.sheet.specs.Editions.{variables}
 use Rattle.sheet.specs.Records.{Node}
-use Rattle.press_spec.specs.declared.Lowering.the-variants.{Nothing, Units}
+use Rattle.press_spec.specs.declared.Lowerable.{Lowerable}
+use Rattle.press_spec.specs.declared.Lowering.the-variants.{Nothing, Of}
 use Rattle.press_spec.specs.declared.Plan.{Plan}
 use Rattle.press_spec.specs.Links.{Link}
 use Rattle.press_spec.specs.Rebuild.{Ended, ended}
-use Rattle.press_spec.specs.Units.{lowerUnits}
+use Rattle.press_spec.specs.Lowerings.{lowerOf, lowerBy}
 use Rattle.press_spec.specs.Order.{orderFrom, laid}
-use Rattle.press_spec.specs.Press.{shortened, lowerBy, arranged, conclusion, chosenFit, concluded, pressedFrom, pressed}
+use Rattle.press_spec.specs.Press.{shortened, arranged, conclusion, chosenFit, concluded, pressedFrom, pressed}
 use Rattle.press_nodes.specs.Tables.{linksIn, nodesIn}
 use Rattle.press_nodes.proofs.Tables.{links-nodes}
 
@@ -23,10 +24,11 @@ module _ (plan : Plan) (s : List Node) (t : Ended) (short : t ≡ shortened (cho
   unfolding pressed pressedFrom concluded lowerBy
   nothing-pressed q = rw (q, short)
 
-  pub units-concluded : plan .lowering ≡ Units → lowerUnits (variables (plan .edition)) t ≡ concluded plan (conclusion s) s
-  unfolding concluded lowerBy
-  units-concluded q = rw (q, short)
+  module _ (which : Lowerable) (q : plan .lowering ≡ Of which) where
+    pub lowered-concluded : lowerOf which (variables (plan .edition)) t ≡ concluded plan (conclusion s) s
+    unfolding concluded lowerBy
+    lowered-concluded = rw (q, short)
 
-  pub units-pressed : plan .lowering ≡ Units → arranged (lowerUnits (variables (plan .edition)) t) ≡ pressed plan s
-  unfolding pressed pressedFrom
-  units-pressed q = ap arranged (units-concluded q)
+    pub lowered-pressed : arranged (lowerOf which (variables (plan .edition)) t) ≡ pressed plan s
+    unfolding pressed pressedFrom
+    lowered-pressed = ap arranged lowered-concluded

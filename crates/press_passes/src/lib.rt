@@ -8,13 +8,14 @@ ghost use Rattle.sheet.specs.Editions.{variables, mostNodes, capacity};
 ghost use Rattle.sheet.specs.Fields.{sheetBytes};
 ghost use Rattle.press_spec.specs.Drops.{withDrops};
 ghost use Rattle.press_spec.specs.Rebuild.{ended};
-ghost use Rattle.press_spec.specs.Units.{lowerUnits};
+ghost use Rattle.press_spec.specs.Lowerings.{lowerOf};
 ghost use Rattle.press_spec.specs.Press.{shortened, arranged, conclusion, chosenFit, concluded, pressed, core, report};
 ghost use Rattle.press_nodes.specs.Tables.{clauseWords, nodesIn, Nodes};
 ghost use Rattle.press_write.specs.Emittable.{Emittable};
 ghost use Rattle.press_write.specs.Reported.{reported};
 ghost use Rattle.press_passes.specs.Finishing.{Finishes};
 use press_nodes::clause_table;
+use press_spec::Lowerable;
 use press_spec::Lowering;
 use press_spec::Plan;
 use press_trim::uses;
@@ -78,8 +79,9 @@ fn finish(
     press_write::write(edition, &laid[..kept], &sets[..words], lines, out, marks)
 }
 
-// The units are lowered, in tables with room for the new steps; then 4 to 6.
+// What is chosen is lowered, in tables with room for the new steps; then 4 to 6.
 fn finish_lowered(
+    which: Lowerable,
     edition: Edition,
     links: &mut [u64],
     clauses: &mut [u64],
@@ -90,13 +92,14 @@ fn finish_lowered(
     marks: &mut [u8],
 ) -> Pressed
     requires { ⌜ Nodes (now links) (now clauses) × (length (now links) ≤ mostNodes) × (from .0 < length (now links)) × (length (now sets) ≡ clauseWords mostNodes) ⌝ }
-    requires { ⌜ (length (lowerUnits (variables edition) (ended (nodesIn (now links) (now clauses)) (from .0)) .nodes) ≤ capacity) × (length (arranged (lowerUnits (variables edition) (ended (nodesIn (now links) (now clauses)) (from .0)))) ≤ mostNodes) ⌝ }
-    requires { ⌜ Emittable edition lines (arranged (lowerUnits (variables edition) (ended (nodesIn (now links) (now clauses)) (from .0)))) (now out) (now marks) ⌝ }
-    ensures { λ r. ⌜ Finishes edition lines (arranged (lowerUnits (variables edition) (ended (nodesIn (now (links .entry)) (now (clauses .entry))) (from .0)))) r (now (out .entry)) (now (marks .entry)) (now (out .exit)) (now (marks .exit)) ⌝ }
+    requires { ⌜ (length (lowerOf which (variables edition) (ended (nodesIn (now links) (now clauses)) (from .0)) .nodes) ≤ capacity) × (length (arranged (lowerOf which (variables edition) (ended (nodesIn (now links) (now clauses)) (from .0)))) ≤ mostNodes) ⌝ }
+    requires { ⌜ Emittable edition lines (arranged (lowerOf which (variables edition) (ended (nodesIn (now links) (now clauses)) (from .0)))) (now out) (now marks) ⌝ }
+    ensures { λ r. ⌜ Finishes edition lines (arranged (lowerOf which (variables edition) (ended (nodesIn (now (links .entry)) (now (clauses .entry))) (from .0)))) r (now (out .entry)) (now (marks .entry)) (now (out .exit)) (now (marks .exit)) ⌝ }
 {
     let mut wider_links = [0u64; CAPACITY];
     let mut wider_clauses = [0u64; CAPACITY_WORDS];
-    let lowered = press_lower::lower_units(
+    let lowered = press_lower::lower(
+        which,
         edition,
         links,
         clauses,
@@ -141,7 +144,8 @@ pub fn run_passes(
     let lowering = plan.lowering;
     match lowering {
         Lowering::Nothing => finish(edition, links, clauses, from, &mut sets, lines, out, marks),
-        Lowering::Units => finish_lowered(
+        Lowering::Of(which) => finish_lowered(
+            which,
             edition,
             links,
             clauses,

@@ -7,7 +7,7 @@ use lib.Seq.{length-take-le}
 use Rattle.sheet.specs.Editions.{variables, capacity}
 use Rattle.sheet.specs.Records.{Node}
 use Rattle.press_spec.specs.Rebuild.{Ended, ended}
-use Rattle.press_spec.specs.Units.{lowerUnits}
+use Rattle.press_spec.specs.Lowerings.{lowerOf}
 use Rattle.press_spec.specs.Press.{arranged}
 use Rattle.press_nodes.specs.Tables.{clauseWords, nodesIn, Nodes}
 use Rattle.press_nodes.proofs.Tables.{nodes-front}
@@ -21,35 +21,35 @@ use Rattle.press_passes.proofs.finish_lowered.Tie as tie
 
 module _ (st : tie.Start) where
   abbrev whole : Ended
-  whole = lowerUnits (variables (st .args .edition)) (ended (nodesIn (st .args .links .now) (st .args .clauses .now)) (st .args .from .0))
+  whole = lowerOf (st .args .which) (variables (st .args .edition)) (ended (nodesIn (st .args .links .now) (st .args .clauses .now)) (st .args .from .0))
 
-module _ (l : tie.After-lower-units) where
+module _ (l : tie.After-lower) where
   abbrev start : tie.Start
   start = l .before .before .before .before .before .before .before .before .before .before
 
   abbrev nodes : ℕ
-  nodes = l .lower-units .result .nodes
+  nodes = l .lower .result .nodes
 
   abbrev links : List ℕ
-  links = l .lower-units .last .1 .1 .1 .1 .0
+  links = l .lower .last .1 .1 .1 .1 .1 .0
 
   abbrev clauses : List ℕ
-  clauses = l .lower-units .last .1 .1 .1 .1 .1 .0
+  clauses = l .lower .last .1 .1 .1 .1 .1 .1 .0
 
   links-long : length links ≡ capacity
-  links-long = l .lower-units .kept .1 .1 .1 .1 .0 ∙ length-replicate {A = ℕ} capacity 0
+  links-long = l .lower .kept .1 .1 .1 .1 .1 .0 ∙ length-replicate {A = ℕ} capacity 0
 
   clauses-long : length clauses ≡ clauseWords capacity
-  clauses-long = l .lower-units .kept .1 .1 .1 .1 .1 .0 ∙ length-replicate {A = ℕ} (clauseWords capacity) 0
+  clauses-long = l .lower .kept .1 .1 .1 .1 .1 .1 .0 ∙ length-replicate {A = ℕ} (clauseWords capacity) 0
 
   few : nodes ≤ capacity
-  few = omega (arith, l .lower-units .ensures .1 .2, length-replicate {A = ℕ} capacity 0)
+  few = omega (arith, l .lower .ensures .1 .2, length-replicate {A = ℕ} capacity 0)
 
-  lowered-is : ended (nodesIn (take nodes links) (take (clauseWords nodes) clauses)) (l .lower-units .result .last .0) ≡ whole start
-  lowered-is = ap (λ (s : List Node). ended s (l .lower-units .result .last .0)) (nodes-front nodes links clauses) ∙ l .lower-units .ensures .0
+  lowered-is : ended (nodesIn (take nodes links) (take (clauseWords nodes) clauses)) (l .lower .result .last .0) ≡ whole start
+  lowered-is = ap (λ (s : List Node). ended s (l .lower .result .last .0)) (nodes-front nodes links clauses) ∙ l .lower .ensures .0
 
 module _ (w : tie.After-words-for) where
-  abbrev low : tie.After-lower-units
+  abbrev low : tie.After-lower
   low = w .before .before .before .before .before .before .before .before
 
   abbrev words : ℕ
@@ -59,21 +59,21 @@ module _ (w : tie.After-words-for) where
   words-fit = omega (arith, w .words-for .ensures, clauses-long low, few low)
 
   tables : Nodes (take (nodes low) (links low)) (take words (clauses low))
-  tables = subst (λ (k : ℕ). Nodes (take (nodes low) (links low)) (take k (clauses low))) (sym (w .words-for .ensures)) (low .lower-units .ensures .1 .0)
+  tables = subst (λ (k : ℕ). Nodes (take (nodes low) (links low)) (take k (clauses low))) (sym (w .words-for .ensures)) (low .lower .ensures .1 .0)
 
-  finished : arranged (ended (nodesIn (take (nodes low) (links low)) (take words (clauses low))) (low .lower-units .result .last .0)) ≡ arranged (whole (start low))
+  finished : arranged (ended (nodesIn (take (nodes low) (links low)) (take words (clauses low))) (low .lower .result .last .0)) ≡ arranged (whole (start low))
   finished =
-      ap (λ (k : ℕ). arranged (ended (nodesIn (take (nodes low) (links low)) (take k (clauses low))) (low .lower-units .result .last .0))) (w .words-for .ensures)
+      ap (λ (k : ℕ). arranged (ended (nodesIn (take (nodes low) (links low)) (take k (clauses low))) (low .lower .result .last .0))) (w .words-for .ensures)
       ∙ ap arranged (lowered-is low)
 
-slice-aggregate-lower-units : tie.Need-slice-aggregate-lower-units
-slice-aggregate-lower-units c = search needs
+slice-aggregate-lower : tie.Need-slice-aggregate-lower
+slice-aggregate-lower c = search needs
 
-slice-aggregate-lower-units-2 : tie.Need-slice-aggregate-lower-units-2
-slice-aggregate-lower-units-2 c = search needs
+slice-aggregate-lower-2 : tie.Need-slice-aggregate-lower-2
+slice-aggregate-lower-2 c = search needs
 
-lower-units-requires : tie.Need-lower-units-requires
-lower-units-requires c κs = let st = c .before .before .before .before .before .before .before .before .before in
+lower-requires : tie.Need-lower-requires
+lower-requires c κs = let st = c .before .before .before .before .before .before .before .before .before in
     let long = length-replicate {A = ℕ} capacity 0 in
     let wide = length-replicate {A = ℕ} (clauseWords capacity) 0 in
     ((st .pre .0 .0, st .pre .0 .1, st .pre .0 .2), ((omega (arith, long, wide), omega (arith, long), omega (arith, long, st .pre .0 .1)), omega (arith, long, st .pre .1 .0 .0)))
@@ -101,7 +101,7 @@ finish-requires c κs = let st = c .before .before .before .before .before .befo
     let w = c .before .before .before .before .before in
     let l = low w in
     let a = st .args in (
-      (tables w, rw (length-take-le (nodes l) (links l) (omega (arith, few l, links-long l))) (l .lower-units .ensures .1 .1), st .pre .0 .3),
+      (tables w, rw (length-take-le (nodes l) (links l) (omega (arith, few l, links-long l))) (l .lower .ensures .1 .1), st .pre .0 .3),
       (
         rw (finished w) (st .pre .1 .0 .1),
         subst (λ (s : List Node). Emittable (a .edition) (a .lines) s (a .out .now) (a .marks .now)) (sym (finished w)) (st .pre .1 .1),
@@ -109,10 +109,10 @@ finish-requires c κs = let st = c .before .before .before .before .before .befo
     )
 
 same-length : tie.Need-same-length
-same-length c = c .before .before .before .before .before .before .before .before .before .before .before .before .before .before .before .before .before .before .before .before .lower-units .kept .1 .0
+same-length c = c .before .before .before .before .before .before .before .before .before .before .before .before .before .before .before .before .before .before .before .before .lower .kept .1 .1 .0
 
 same-length-2 : tie.Need-same-length-2
-same-length-2 c = c .before .before .before .before .before .before .before .before .before .before .before .before .before .before .before .before .before .before .before .before .lower-units .kept .1 .1 .0
+same-length-2 c = c .before .before .before .before .before .before .before .before .before .before .before .before .before .before .before .before .before .before .before .before .lower .kept .1 .1 .1 .0
 
 same-length-3 : tie.Need-same-length-3
 same-length-3 c = c .before .before .before .before .before .before .finish .kept .1 .1 .1 .1 .0
@@ -133,9 +133,9 @@ pub finish-lowered-spec : {M : Type 1} → statement M
 finish-lowered-spec =
     tie.close
     (tie.spec
-    slice-aggregate-lower-units
-    slice-aggregate-lower-units-2
-    lower-units-requires
+    slice-aggregate-lower
+    slice-aggregate-lower-2
+    lower-requires
     cast-n
     words-for-requires
     array-share-prefix-wider-links

@@ -10,13 +10,14 @@ use Rattle.sheet.specs.Fields.{sheetBytes}
 use Rattle.sheet.specs.Records.{Node}
 use Rattle.press_spec.specs.Drops.{withDrops}
 use Rattle.press_spec.specs.Rebuild.{Ended, ended}
-use Rattle.press_spec.specs.Units.{lowerUnits}
+use Rattle.press_spec.specs.Lowerings.{lowerOf}
 use Rattle.press_spec.specs.Press.{arranged, pressed, core, report}
-use Rattle.press_spec.specs.declared.Lowering.the-variants.{Nothing, Units}
+use Rattle.press_spec.specs.declared.Lowerable.{Lowerable}
+use Rattle.press_spec.specs.declared.Lowering.the-variants.{Nothing, Of}
 use Rattle.press_nodes.specs.Tables.{clauseWords, nodesIn}
 use Rattle.press_nodes.proofs.Lent.{lent-long}
 use Rattle.press_write.specs.Emittable.{Emittable}
-use Rattle.press_passes.proofs.Chosen.{nothing-pressed, units-concluded, units-pressed}
+use Rattle.press_passes.proofs.Chosen.{nothing-pressed, lowered-concluded, lowered-pressed}
 use borrow.Author.Needs.{needs}
 use Rattle.press_passes.proofs.run_passes.Statement.{statement}
 use Rattle.press_passes.proofs.run_passes.Tie as tie
@@ -56,8 +57,9 @@ module _ (b : tie.After-shorten) where
   nothing : start .args .plan .lowering ≡ Nothing → arranged t ≡ pressed (start .args .plan) (nodes start)
   nothing = nothing-pressed (start .args .plan) (nodes start) t (b .shorten .ensures .1)
 
-  units : start .args .plan .lowering ≡ Units → arranged (lowerUnits (variables (start .args .plan .edition)) t) ≡ pressed (start .args .plan) (nodes start)
-  units = units-pressed (start .args .plan) (nodes start) t (b .shorten .ensures .1)
+  lowered : (which : Lowerable) → start .args .plan .lowering ≡ Of which
+      → arranged (lowerOf which (variables (start .args .plan .edition)) t) ≡ pressed (start .args .plan) (nodes start)
+  lowered = lowered-pressed (start .args .plan) (nodes start) t (b .shorten .ensures .1)
 
 words-for-requires : tie.Need-words-for-requires
 words-for-requires c κs = omega (arith, few (c .before .before .before .before))
@@ -90,19 +92,19 @@ finish-requires c κs = let st = c .before .before .before .before .before .befo
       ),
     )
 
-enum-told-2 : tie.Need-enum-told-2
-enum-told-2 c = search needs
+enum-known-lowering : tie.Need-enum-known-lowering
+enum-known-lowering c = search needs
 
 slice-aggregate-finish-lowered : tie.Need-slice-aggregate-finish-lowered
-slice-aggregate-finish-lowered c = sym (sets-long (c .before .before .before .before .before .before .before .before .before .before))
+slice-aggregate-finish-lowered c = sym (sets-long (c .before .before .before .before .before .before .before .before .before .before .before))
 
 finish-lowered-requires : tie.Need-finish-lowered-requires
-finish-lowered-requires c κs = let st = c .before .before .before .before .before .before .before .before .before .before .before .before .before .before .before .before .before .before .before .before .before in
-    let b = c .before .before .before .before .before .before .before .before .before .before .before .before in
+finish-lowered-requires c κs = let st = c .before .before .before .before .before .before .before .before .before .before .before .before .before .before .before .before .before .before .before .before .before .before in
+    let b = c .before .before .before .before .before .before .before .before .before .before .before .before .before in
     let a = st .args in
-    let p = c .before .before .before .before .before .enum-told2 .given .1 in
-    let q = units b p in
-    let e = units-concluded (a .plan) (nodes st) (t b) (b .shorten .ensures .1) p in (
+    let p = c .before .before .before .before .before .before .lowering .given .1 in
+    let q = lowered b _ p in
+    let e = lowered-concluded (a .plan) (nodes st) (t b) (b .shorten .ensures .1) _ p in (
       (b .shorten .ensures .0 .0, rw (b .shorten .kept .1 .0) (few st), b .shorten .ensures .0 .1, sets-long b),
       (
         (subst (λ (y : Ended). length (y .nodes) ≤ capacity) (sym e) (st .pre .1 .0 .0), rw q (st .pre .1 .0 .1)),
@@ -135,10 +137,10 @@ returns c = let st = c .before .before .before .before .before .before .before .
     )
 
 same-length-5 : tie.Need-same-length-5
-same-length-5 c = c .before .before .before .before .before .before .before .before .before .finish-lowered .kept .1 .0 ∙ c .before .before .before .before .before .before .before .before .before .before .before .before .before .before .before .before .before .before .before .before .before .before .shorten .kept .1 .0
+same-length-5 c = c .before .before .before .before .before .before .before .before .before .finish-lowered .kept .1 .1 .0 ∙ c .before .before .before .before .before .before .before .before .before .before .before .before .before .before .before .before .before .before .before .before .before .before .before .shorten .kept .1 .0
 
 same-length-6 : tie.Need-same-length-6
-same-length-6 c = c .before .before .before .before .before .before .before .before .before .finish-lowered .kept .1 .1 .0 ∙ c .before .before .before .before .before .before .before .before .before .before .before .before .before .before .before .before .before .before .before .before .before .before .shorten .kept .1 .1 .0
+same-length-6 c = c .before .before .before .before .before .before .before .before .before .finish-lowered .kept .1 .1 .1 .0 ∙ c .before .before .before .before .before .before .before .before .before .before .before .before .before .before .before .before .before .before .before .before .before .before .before .shorten .kept .1 .1 .0
 
 same-length-7 : tie.Need-same-length-7
 same-length-7 c = search needs
@@ -147,10 +149,10 @@ same-length-8 : tie.Need-same-length-8
 same-length-8 c = search needs
 
 returns-2 : tie.Need-returns-2
-returns-2 c = let st = c .before .before .before .before .before .before .before .before .before .before .before .before .before .before .before .before .before .before .before .before .before .before .before .before .before .before .before .before .before .before .before in
+returns-2 c = let st = c .before .before .before .before .before .before .before .before .before .before .before .before .before .before .before .before .before .before .before .before .before .before .before .before .before .before .before .before .before .before .before .before in
     let a = st .args in
     let e = c .before .before .before .before .before .before .before .before .before .finish-lowered .ensures in
-    let same = units (c .before .before .before .before .before .before .before .before .before .before .before .before .before .before .before .before .before .before .before .before .before .before) (c .before .before .before .before .before .before .before .before .before .before .before .before .before .before .before .enum-told2 .given .1) in (
+    let same = lowered (c .before .before .before .before .before .before .before .before .before .before .before .before .before .before .before .before .before .before .before .before .before .before .before) _ (c .before .before .before .before .before .before .before .before .before .before .before .before .before .before .before .before .lowering .given .1) in (
       e .0 ∙ ap (report (a .lines)) same,
       (
         e .1 ∙ ap (λ (s : List Node). put (a .out .now) 0 (sheetBytes (a .plan .edition) (withDrops s))) same,
@@ -169,7 +171,7 @@ run-passes-spec =
     enum-told
     slice-aggregate-finish
     finish-requires
-    enum-told-2
+    enum-known-lowering
     slice-aggregate-finish-lowered
     finish-lowered-requires
     same-length

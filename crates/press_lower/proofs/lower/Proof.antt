@@ -5,20 +5,21 @@ use native.Mathlib.Omega.{arith}
 use lib.ListN.{length, getD, take, drop, replicate}
 use lib.Seq.{length-take-le, length-front}
 use Rattle.sheet.specs.Editions.{variables, mostNodes}
+use Rattle.sheet.specs.Records.{Node}
 use Rattle.sheet.proofs.Sizes.{variables-few}
-use Rattle.press_spec.specs.Rebuild.{built, standIn, Ended, ended}
+use Rattle.press_spec.specs.Rebuild.{Built, built, standIn, Ended, ended}
 use Rattle.press_spec.specs.Lower.{lowAt, comeBackAll}
-use Rattle.press_spec.specs.Units.{lowerUnits}
+use Rattle.press_spec.specs.Lowerings.{lowerOf}
 use Rattle.press_nodes.specs.Tables.{nodesIn, clauseWords}
 use Rattle.press_lowered.specs.Table.{lowIn}
 use Rattle.press_nodes.proofs.Lent.{lent-long, front-long, front-again}
 use Rattle.press_nodes.proofs.Tables.{nodes-length, nodes-front}
-use Rattle.press_rebuild.proofs.Sounds.{SoundNodes}
+use Rattle.press_rebuild.proofs.Sounds.{SoundNodes, nodes-sound}
 use Rattle.press_lower.proofs.Fronts.{front-nodes}
-use Rattle.press_lower.proofs.Lowering.{lowering-is, stand-ins-down, lowering-sound}
+use Rattle.press_lower.proofs.Lowering.{stand-ins-down, lowering-sound}
 use borrow.Author.Needs.{needs}
-use Rattle.press_lower.proofs.lower_units.Statement.{statement}
-use Rattle.press_lower.proofs.lower_units.Tie as tie
+use Rattle.press_lower.proofs.lower.Statement.{statement}
+use Rattle.press_lower.proofs.lower.Tie as tie
 
 -- ---- what is known after each part: the table that it filled, lent again, and what stands in it
 
@@ -33,55 +34,59 @@ module _ (st : tie.Start) where
   v = variables (st .args .edition)
 
   abbrev whole : Ended
-  whole = lowerUnits v (ended (nodesIn (st .args .links .now) (st .args .clauses .now)) (st .args .from .0))
+  whole = lowerOf (st .args .which) v (ended (nodesIn (st .args .links .now) (st .args .clauses .now)) (st .args .from .0))
 
-module _ (d : tie.After-cut-units) where
+module _ (d : tie.After-cut) where
   abbrev cutting : tie.Start
   cutting = d .before .before .before .before .before .before .before .before .before .before
 
   abbrev links : List ℕ
-  links = d .cut-units .last .1 .0
+  links = d .cut .last .1 .1 .0
 
   abbrev clauses : List ℕ
-  clauses = d .cut-units .last .1 .1 .0
+  clauses = d .cut .last .1 .1 .1 .0
 
   abbrev low : List ℕ
-  low = d .cut-units .last .1 .1 .1 .1 .0
+  low = d .cut .last .1 .1 .1 .1 .1 .0
 
   abbrev standIns : List ℕ
-  standIns = d .cut-units .last .1 .1 .1 .1 .1 .0
+  standIns = d .cut .last .1 .1 .1 .1 .1 .1 .0
 
   links-long : length links ≡ n cutting
-  links-long = d .cut-units .kept .1 .0
+  links-long = d .cut .kept .1 .1 .0
 
   clauses-long : length clauses ≡ clauseWords (n cutting)
-  clauses-long = d .cut-units .kept .1 .1 .0 ∙ cutting .pre .0 .0 .size
+  clauses-long = d .cut .kept .1 .1 .1 .0 ∙ cutting .pre .0 .0 .size
 
   low-long : n cutting ≤ length (low ++ drop (n cutting) (replicate mostNodes 0))
-  low-long = front-long (replicate mostNodes 0) low (n cutting) (d .cut-units .kept .1 .1 .1 .1 .0) (few cutting)
+  low-long = front-long (replicate mostNodes 0) low (n cutting) (d .cut .kept .1 .1 .1 .1 .1 .0) (few cutting)
 
   low-again : take (n cutting) (low ++ drop (n cutting) (replicate mostNodes 0)) ≡ low
-  low-again = front-again (replicate mostNodes 0) low (n cutting) (d .cut-units .kept .1 .1 .1 .1 .0) (few cutting)
+  low-again = front-again (replicate mostNodes 0) low (n cutting) (d .cut .kept .1 .1 .1 .1 .1 .0) (few cutting)
 
   stand-ins-long : n cutting ≤ length (standIns ++ drop (n cutting) (replicate mostNodes 0))
-  stand-ins-long = front-long (replicate mostNodes 0) standIns (n cutting) (d .cut-units .kept .1 .1 .1 .1 .1 .0) (few cutting)
+  stand-ins-long = front-long (replicate mostNodes 0) standIns (n cutting) (d .cut .kept .1 .1 .1 .1 .1 .1 .0) (few cutting)
 
   stand-ins-again : take (n cutting) (standIns ++ drop (n cutting) (replicate mostNodes 0)) ≡ standIns
-  stand-ins-again = front-again (replicate mostNodes 0) standIns (n cutting) (d .cut-units .kept .1 .1 .1 .1 .1 .0) (few cutting)
+  stand-ins-again = front-again (replicate mostNodes 0) standIns (n cutting) (d .cut .kept .1 .1 .1 .1 .1 .1 .0) (few cutting)
 
   back : comeBackAll (lowAt (lowIn low)) (built (nodesIn links clauses) standIns) (cutting .args .from .0) ≡ whole cutting
-  back = lowering-is (v cutting) (cutting .pre .0 .0) (cutting .args .from .0) (lowIn low) (built (nodesIn links clauses) standIns) (d .cut-units .ensures .0) (d .cut-units .ensures .1)
+  unfolding lowerOf
+  back = rw (d .cut .ensures .0, d .cut .ensures .1)
+
+  abbrev old : List Node
+  old = nodesIn (cutting .args .links .now) (cutting .args .clauses .now)
 
   down : (m : ℕ) → getD standIns m 0 ≤ m
   unfolding standIn
-  down = stand-ins-down (v cutting) (cutting .pre .0 .0) (cutting .args .from .0) (lowIn low) (built (nodesIn links clauses) standIns) (d .cut-units .ensures .0) (d .cut-units .ensures .1)
+  down m = omega (arith, ap (λ (b : Built). standIn b m) (d .cut .ensures .1), stand-ins-down (v cutting) old (cutting .args .from .0) (nodes-sound (cutting .pre .0 .0)) (cutting .args .which) m)
 
   sound : SoundNodes (whole cutting .nodes)
-  sound = lowering-sound (v cutting) (cutting .pre .0 .0) (cutting .args .from .0) (lowIn low) (built (nodesIn links clauses) standIns) (d .cut-units .ensures .0) (d .cut-units .ensures .1)
-      (variables-few (cutting .args .edition)) (cutting .pre .0 .2) (nodes-length links clauses ∙ links-long)
+  sound = lowering-sound (v cutting) old (cutting .args .from .0) (nodes-sound (cutting .pre .0 .0)) (cutting .args .which) (variables-few (cutting .args .edition))
+      (rw (nodes-length (cutting .args .links .now) (cutting .args .clauses .now)) (cutting .pre .0 .2))
 
 module _ (w : tie.After-copy-words2) where
-  abbrev cut : tie.After-cut-units
+  abbrev cut : tie.After-cut
   cut = w .before .before .before .before .before .before .before .before .before .before .before .before .before .before
 
   abbrev copying : tie.Start
@@ -136,17 +141,17 @@ words-for-requires c κs = omega (arith, few (c .before .before .before .before)
 array-borrow-prefix-low : tie.Need-array-borrow-prefix-low
 array-borrow-prefix-low c = few (c .before .before .before .before .before .before .before)
 
-slice-aggregate-cut-units : tie.Need-slice-aggregate-cut-units
-slice-aggregate-cut-units c = sym (lent-long mostNodes _ (few (c .before .before .before .before .before .before .before .before)))
+slice-aggregate-cut : tie.Need-slice-aggregate-cut
+slice-aggregate-cut c = sym (lent-long mostNodes _ (few (c .before .before .before .before .before .before .before .before)))
 
 array-borrow-prefix-stand-ins : tie.Need-array-borrow-prefix-stand-ins
 array-borrow-prefix-stand-ins c = few (c .before .before .before .before .before .before .before .before)
 
-slice-aggregate-cut-units-2 : tie.Need-slice-aggregate-cut-units-2
-slice-aggregate-cut-units-2 c = sym (lent-long mostNodes _ (few (c .before .before .before .before .before .before .before .before .before)))
+slice-aggregate-cut-2 : tie.Need-slice-aggregate-cut-2
+slice-aggregate-cut-2 c = sym (lent-long mostNodes _ (few (c .before .before .before .before .before .before .before .before .before)))
 
-cut-units-requires : tie.Need-cut-units-requires
-cut-units-requires c κs = let st = c .before .before .before .before .before .before .before .before .before in (st .pre .0 .0, (few st, st .pre .0 .2, lent-long mostNodes _ (few st), lent-long mostNodes _ (few st)))
+cut-requires : tie.Need-cut-requires
+cut-requires c κs = let st = c .before .before .before .before .before .before .before .before .before in (st .pre .0 .0, (few st, st .pre .0 .2, lent-long mostNodes _ (few st), lent-long mostNodes _ (few st)))
 
 slice-relend-prefix-copy-words : tie.Need-slice-relend-prefix-copy-words
 slice-relend-prefix-copy-words c = let st = c .before .before .before .before .before .before .before .before .before .before .before .before .before .before .before .before .before in st .pre .1 .0 .2
@@ -193,10 +198,10 @@ come-back-all-requires c κs = let st = c .before .before .before .before .befor
     )
 
 same-length : tie.Need-same-length
-same-length c = c .before .before .before .before .before .before .before .before .before .before .before .before .before .before .before .before .before .before .before .before .before .before .before .before .before .cut-units .kept .1 .0
+same-length c = c .before .before .before .before .before .before .before .before .before .before .before .before .before .before .before .before .before .before .before .before .before .before .before .before .before .cut .kept .1 .1 .0
 
 same-length-2 : tie.Need-same-length-2
-same-length-2 c = c .before .before .before .before .before .before .before .before .before .before .before .before .before .before .before .before .before .before .before .before .before .before .before .before .before .cut-units .kept .1 .1 .0
+same-length-2 c = c .before .before .before .before .before .before .before .before .before .before .before .before .before .before .before .before .before .before .before .before .before .before .before .before .before .cut .kept .1 .1 .1 .0
 
 same-length-3 : tie.Need-same-length-3
 same-length-3 c = c .before .before .before .before .come-back-all .kept .0 ∙ wider-long (c .before .before .before .before .before .before .before .before .before .before .before)
@@ -219,16 +224,16 @@ returns c = let st = c .before .before .before .before .before .before .before .
       ),
     )
 
-pub lower-units-spec : {M : Type 1} → statement M
-lower-units-spec =
+pub lower-spec : {M : Type 1} → statement M
+lower-spec =
     tie.close
     (tie.spec
     words-for-requires
     array-borrow-prefix-low
-    slice-aggregate-cut-units
+    slice-aggregate-cut
     array-borrow-prefix-stand-ins
-    slice-aggregate-cut-units-2
-    cut-units-requires
+    slice-aggregate-cut-2
+    cut-requires
     slice-relend-prefix-copy-words
     slice-aggregate-copy-words
     copy-words-requires

@@ -13,10 +13,10 @@ use Rattle.press_nodes.specs.Fates.{fatesIn}
 use Rattle.press_nodes.specs.Tables.{linksIn, nodesIn, clauseWords}
 use Rattle.press_lowered.specs.Table.{lowIn}
 use Rattle.press_nodes.proofs.Lent.{lent-long, front-long, front-again}
-use Rattle.press_lower.proofs.Lowering.{units-in}
+use Rattle.press_lower.proofs.Lowering.{units-in, units-built}
 use borrow.Author.Needs.{needs}
-use Rattle.press_lower.proofs.cut_units.Statement.{statement}
-use Rattle.press_lower.proofs.cut_units.Tie as tie
+use Rattle.press_lower.proofs.units.cut_units.Statement.{statement}
+use Rattle.press_lower.proofs.units.cut_units.Tie as tie
 
 -- ---- what is known after each pass: the table that it filled, lent again, and what stands in it
 
@@ -139,11 +139,10 @@ same-length-4 c = search needs
 
 returns : tie.Need-returns
 returns c = let st = c .before .before .before .before .before .before .before .before .before .before .before .before .before .before .before .before .before .before .before .before .before .before .before .before .before .before .before .before .before .before .before .before .before in
-    let u = c .before .before .before .before .before .before .before .before .before .before .before .before .before .before .before .before .before .before .before .before .before .before .before .before .before in (
-      units-in _ _ (st .args .links .now) _ (take (n st) (counts u ++ drop (n st) (replicate mostNodes 0))) _ _ (c .before .before .before .before .before .before .before .before .before .before .before .before .before .before .before .before .before .before .before .before .before .before .variables .ensures)
-          (sym (length-take-le _ _ (counts-long u))) (λ m. rw (counts-again u) (u .uses-with .ensures .0 m)) (c .before .before .before .before .before .before .before .before .before .before .before .before .before .before .before .before .before .before .collect-units .ensures),
-      c .before .before .before .before .before .before .rebuild .ensures ∙ ap (rebuild (nodesIn (st .args .links .now) (st .args .clauses .now))) (fated (c .before .before .before .before .before .before .before .before .before .before .before .before)),
-    )
+    let u = c .before .before .before .before .before .before .before .before .before .before .before .before .before .before .before .before .before .before .before .before .before .before .before .before .before in
+    let low = units-in _ _ (st .args .links .now) _ (take (n st) (counts u ++ drop (n st) (replicate mostNodes 0))) _ _ (c .before .before .before .before .before .before .before .before .before .before .before .before .before .before .before .before .before .before .before .before .before .before .variables .ensures)
+    (sym (length-take-le _ _ (counts-long u))) (λ m. rw (counts-again u) (u .uses-with .ensures .0 m)) (c .before .before .before .before .before .before .before .before .before .before .before .before .before .before .before .before .before .before .collect-units .ensures) in
+    (low, units-built _ _ _ _ _ _ low (c .before .before .before .before .before .before .rebuild .ensures ∙ ap (rebuild (nodesIn (st .args .links .now) (st .args .clauses .now))) (fated (c .before .before .before .before .before .before .before .before .before .before .before .before))))
 
 pub cut-units-spec : {M : Type 1} → statement M
 cut-units-spec =
