@@ -10,6 +10,6 @@ no-more-steps e how low sheet rules rs p =
     Kept.lowering-shorter e how low rules (nodesOf rs) proper some
 
 pub no-unit-concludes : NoUnitConcludes
-no-unit-concludes plan sheet rules rs n l t p =
+no-unit-concludes plan which sheet rules rs n l t p =
     let (proper, some) = proper-nodes (plan .edition) rules sheet rs p in
-    Kept.no-unit-concludes (plan .edition) (plan .recycling) rules (nodesOf rs) proper some n t l
+    Kept.no-unit-concludes (plan .edition) (plan .recycling) rules (nodesOf rs) proper some which n t l

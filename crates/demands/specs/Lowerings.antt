@@ -7,7 +7,8 @@ use Rattle.sheet.specs.declared.edition.Edition.the-variants.{Narrow, Wide}
 use Rattle.sheet.specs.Records.{given, step, Record, node, drop}
 use Rattle.sheet.specs.Fields.{sheetBytes}
 use Rattle.press_spec.specs.declared.Recycling.the-variants.{Reset, Intersection}
-use Rattle.press_spec.specs.declared.Lowering.the-variants.{Units}
+use Rattle.press_spec.specs.declared.Lowering.the-variants.{Of}
+use Rattle.press_spec.specs.declared.Lowerable.the-variants.{Units}
 use Rattle.press_spec.specs.Plans.{plan}
 use Rattle.demands.specs.Cases.{Case, accepts, allRight}
 
@@ -79,7 +80,7 @@ withinLowered =
     ∷ drop 5
     ∷ []
 
--- of two opposite units only the first is collected
+-- of two opposite units only the first is collected, {-0}
 unfoldable pub opposites : List Record
 opposites =
     node (given 0 (literals 1 0))
@@ -187,34 +188,34 @@ stays =
     ∷ node (given 1 (literals 1 0))
     ∷ node (given 2 (literals 6 1))
     ∷ node (step 0 0 2 (literals 6 0))
-    ∷ node (given 3 (literals 2 5))
-    ∷ node (step 0 0 4 (literals 2 4))
-    ∷ node (step 2 3 5 (literals 2 0))
-    ∷ node (given 4 (literals 4 3))
-    ∷ node (step 0 1 7 (literals 4 2))
+    ∷ node (given 3 (literals 4 3))
+    ∷ node (step 0 0 4 (literals 4 2))
+    ∷ node (step 1 3 5 (literals 4 0))
+    ∷ node (given 4 (literals 2 5))
+    ∷ node (step 0 1 7 (literals 2 4))
     ∷ node (given 5 (literals 0 7))
     ∷ node (step 0 1 9 (literals 0 6))
-    ∷ node (step 2 8 10 (literals 0 2))
-    ∷ node (step 1 6 11 (literals 0 0))
+    ∷ node (step 1 8 10 (literals 0 4))
+    ∷ node (step 2 6 11 (literals 0 0))
     ∷ []
 
 unfoldable pub staysRules : List Literals
-staysRules = literals 1 0 ∷ literals 1 0 ∷ literals 6 1 ∷ literals 2 5 ∷ literals 4 3 ∷ literals 0 7 ∷ []
+staysRules = literals 1 0 ∷ literals 1 0 ∷ literals 6 1 ∷ literals 4 3 ∷ literals 2 5 ∷ literals 0 7 ∷ []
 
 unfoldable pub staysLowered : List Record
 staysLowered =
     node (given 1 (literals 1 0))
     ∷ node (given 2 (literals 6 1))
-    ∷ node (given 3 (literals 2 5))
-    ∷ node (step 2 1 2 (literals 2 1))
+    ∷ node (given 3 (literals 4 3))
+    ∷ node (step 1 1 2 (literals 4 1))
     ∷ drop 1
     ∷ drop 2
-    ∷ node (given 4 (literals 4 3))
+    ∷ node (given 4 (literals 2 5))
     ∷ node (given 5 (literals 0 7))
-    ∷ node (step 2 4 5 (literals 0 3))
+    ∷ node (step 1 4 5 (literals 0 5))
     ∷ drop 4
     ∷ drop 5
-    ∷ node (step 1 3 6 (literals 0 1))
+    ∷ node (step 2 3 6 (literals 0 1))
     ∷ drop 3
     ∷ drop 6
     ∷ node (step 0 0 7 (literals 0 0))
@@ -370,16 +371,16 @@ twiceAgainResetLowered =
 
 unfoldable pub lowerings : List Case
 lowerings =
-    accepts (plan Narrow Intersection Units) everywhereRules everywhere (0 ∷ 0 ∷ 13 ∷ 7 ∷ 3 ∷ 4 ∷ 4 ∷ []) (sheetBytes Narrow everywhereLowered) (1 ∷ 1 ∷ 1 ∷ 1 ∷ [])
-    ∷ accepts (plan Narrow Intersection Units) withinRules within (0 ∷ 0 ∷ 13 ∷ 7 ∷ 3 ∷ 5 ∷ 4 ∷ []) (sheetBytes Narrow withinLowered) (1 ∷ 1 ∷ 1 ∷ 1 ∷ [])
-    ∷ accepts (plan Narrow Intersection Units) oppositesRules opposites (0 ∷ 0 ∷ 23 ∷ 12 ∷ 6 ∷ 4 ∷ 6 ∷ []) (sheetBytes Narrow oppositesLowered) (1 ∷ 1 ∷ 1 ∷ 1 ∷ 1 ∷ 1 ∷ [])
-    ∷ accepts (plan Narrow Intersection Units) againRules again (0 ∷ 0 ∷ 25 ∷ 13 ∷ 6 ∷ 7 ∷ 7 ∷ []) (sheetBytes Narrow againLowered) (1 ∷ 1 ∷ 1 ∷ 1 ∷ 1 ∷ 1 ∷ 1 ∷ [])
-    ∷ accepts (plan Narrow Intersection Units) staysRules stays (0 ∷ 0 ∷ 17 ∷ 9 ∷ 4 ∷ 5 ∷ 5 ∷ []) (sheetBytes Narrow staysLowered) (0 ∷ 1 ∷ 1 ∷ 1 ∷ 1 ∷ 1 ∷ [])
-    ∷ accepts (plan Narrow Intersection Units) onceRules once (0 ∷ 0 ∷ 9 ∷ 5 ∷ 2 ∷ 3 ∷ 3 ∷ []) (sheetBytes Narrow onceLowered) (1 ∷ 1 ∷ 1 ∷ [])
-    ∷ accepts (plan Narrow Intersection Units) mergedRules merged (0 ∷ 0 ∷ 9 ∷ 5 ∷ 2 ∷ 3 ∷ 3 ∷ []) (sheetBytes Narrow mergedLowered) (1 ∷ 0 ∷ 0 ∷ 1 ∷ 1 ∷ [])
-    ∷ accepts (plan Narrow Intersection Units) fewerRules fewer (0 ∷ 4 ∷ 9 ∷ 5 ∷ 2 ∷ 4 ∷ 3 ∷ []) (sheetBytes Narrow fewerLowered) (1 ∷ 0 ∷ 0 ∷ 1 ∷ 1 ∷ [])
-    ∷ accepts (plan Wide Intersection Units) highEverywhereRules highEverywhere (0 ∷ 0 ∷ 13 ∷ 7 ∷ 3 ∷ 4 ∷ 4 ∷ []) (sheetBytes Wide highEverywhereLowered) (1 ∷ 1 ∷ 1 ∷ 1 ∷ [])
-    ∷ accepts (plan Narrow Reset Units) twiceAgainRules twiceAgain (1 ∷ 1 ∷ 7 ∷ 4 ∷ 2 ∷ 3 ∷ 2 ∷ []) (sheetBytes Narrow twiceAgainResetLowered) (1 ∷ 1 ∷ [])
+    accepts (plan Narrow Intersection (Of Units)) everywhereRules everywhere (0 ∷ 0 ∷ 13 ∷ 7 ∷ 3 ∷ 4 ∷ 4 ∷ []) (sheetBytes Narrow everywhereLowered) (1 ∷ 1 ∷ 1 ∷ 1 ∷ [])
+    ∷ accepts (plan Narrow Intersection (Of Units)) withinRules within (0 ∷ 0 ∷ 13 ∷ 7 ∷ 3 ∷ 5 ∷ 4 ∷ []) (sheetBytes Narrow withinLowered) (1 ∷ 1 ∷ 1 ∷ 1 ∷ [])
+    ∷ accepts (plan Narrow Intersection (Of Units)) oppositesRules opposites (0 ∷ 0 ∷ 23 ∷ 12 ∷ 6 ∷ 4 ∷ 6 ∷ []) (sheetBytes Narrow oppositesLowered) (1 ∷ 1 ∷ 1 ∷ 1 ∷ 1 ∷ 1 ∷ [])
+    ∷ accepts (plan Narrow Intersection (Of Units)) againRules again (0 ∷ 0 ∷ 25 ∷ 13 ∷ 6 ∷ 7 ∷ 7 ∷ []) (sheetBytes Narrow againLowered) (1 ∷ 1 ∷ 1 ∷ 1 ∷ 1 ∷ 1 ∷ 1 ∷ [])
+    ∷ accepts (plan Narrow Intersection (Of Units)) staysRules stays (0 ∷ 0 ∷ 17 ∷ 9 ∷ 4 ∷ 5 ∷ 5 ∷ []) (sheetBytes Narrow staysLowered) (0 ∷ 1 ∷ 1 ∷ 1 ∷ 1 ∷ 1 ∷ [])
+    ∷ accepts (plan Narrow Intersection (Of Units)) onceRules once (0 ∷ 0 ∷ 9 ∷ 5 ∷ 2 ∷ 3 ∷ 3 ∷ []) (sheetBytes Narrow onceLowered) (1 ∷ 1 ∷ 1 ∷ [])
+    ∷ accepts (plan Narrow Intersection (Of Units)) mergedRules merged (0 ∷ 0 ∷ 9 ∷ 5 ∷ 2 ∷ 3 ∷ 3 ∷ []) (sheetBytes Narrow mergedLowered) (1 ∷ 0 ∷ 0 ∷ 1 ∷ 1 ∷ [])
+    ∷ accepts (plan Narrow Intersection (Of Units)) fewerRules fewer (0 ∷ 4 ∷ 9 ∷ 5 ∷ 2 ∷ 4 ∷ 3 ∷ []) (sheetBytes Narrow fewerLowered) (1 ∷ 0 ∷ 0 ∷ 1 ∷ 1 ∷ [])
+    ∷ accepts (plan Wide Intersection (Of Units)) highEverywhereRules highEverywhere (0 ∷ 0 ∷ 13 ∷ 7 ∷ 3 ∷ 4 ∷ 4 ∷ []) (sheetBytes Wide highEverywhereLowered) (1 ∷ 1 ∷ 1 ∷ 1 ∷ [])
+    ∷ accepts (plan Narrow Reset (Of Units)) twiceAgainRules twiceAgain (1 ∷ 1 ∷ 7 ∷ 4 ∷ 2 ∷ 3 ∷ 2 ∷ []) (sheetBytes Narrow twiceAgainResetLowered) (1 ∷ 1 ∷ [])
     ∷ []
 
 abbrev pub Lowerings : Type 0

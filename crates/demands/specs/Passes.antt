@@ -13,6 +13,7 @@ use Rattle.sheet.specs.Counts.{nodesOf, stepsOf}
 use Rattle.sheet.specs.Proper.{conclusionOf, Proper}
 use Rattle.press_spec.specs.declared.Recycling.{Recycling}
 use Rattle.press_spec.specs.declared.Recycling.the-variants.{Intersection}
+use Rattle.press_spec.specs.declared.Lowerable.{Lowerable}
 use Rattle.press_spec.specs.declared.Lowering.{Lowering}
 use Rattle.press_spec.specs.declared.Lowering.the-variants.{Nothing}
 use Rattle.press_spec.specs.declared.Plan.{Plan}
@@ -21,8 +22,8 @@ use Rattle.press_spec.specs.Links.{links, sink}
 use Rattle.press_spec.specs.Trim.{trim, Reaches}
 use Rattle.press_spec.specs.Recycle.{Reach, unreached, reached, cutLeft, cutOf, Hands}
 use Rattle.press_spec.specs.Rebuild.{standIn, standing, Ended}
-use Rattle.press_spec.specs.Lower.{lowered, unitConcludes, returnOf, Back}
-use Rattle.press_spec.specs.Units.{unitsLow, unitsBuilt}
+use Rattle.press_spec.specs.Lower.{lowered, lowAt, unitConcludes, returnOf, Back}
+use Rattle.press_spec.specs.Lowerings.{lowsOf, builtOf}
 use Rattle.press_spec.specs.Press.{conclusion, reaches, recycled, shortened, chosenFit, pressedFrom, pressed}
 
 -- "Keep what the sink reaches through parents": of every proper sheet the trim has 1 for each node that the sink reaches, and 0 for each other
@@ -98,11 +99,11 @@ four plan rs = shortened (chosenFit plan (nodesOf rs)) (conclusion (nodesOf rs))
 -- literal.
 abbrev pub NoUnitConcludes : Type 0
 NoUnitConcludes =
-    (plan : Plan) (sheet rules : List ℕ) (rs : List Record) (n : ℕ) (l : Literal) (t : Ended)
+    (plan : Plan) (which : Lowerable) (sheet rules : List ℕ) (rs : List Record) (n : ℕ) (l : Literal) (t : Ended)
     → Proper (plan .edition) (pressRecords (plan .edition)) false rules sheet rs
     → let v = variables (plan .edition) in
-    let low = unitsLow v (four plan rs) in
-    let b = unitsBuilt v (four plan rs) in
+    let low = lowAt (lowsOf which v (four plan rs)) in
+    let b = builtOf which v (four plan rs) in
     Back low b (four plan rs .last) (suc n) t
     → low n ≡ lowered l
     → returnOf l (clause (nodeAt (t .nodes) (standIn b n))) (clause (nodeAt (t .nodes) (t .last))) ≡ unitConcludes
