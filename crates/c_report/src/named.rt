@@ -1,6 +1,7 @@
 // What a caller names by numbers: the edition of a replay, the plan of a press.
 ghost use mathlib.Core.Path.{_≡_};
-ghost use Rattle.c_report.specs.Named.{names, editionOf, recyclingOf, loweringOf, planOf};
+ghost use Rattle.c_report.specs.Named.{names, namesLowering, editionOf, recyclingOf, loweringOf, planOf};
+use press_spec::Lowerable;
 use press_spec::Lowering;
 use press_spec::Plan;
 use press_spec::Recycling;
@@ -17,6 +18,12 @@ pub fn names_one(number: u32) -> bool
     ensures { λ b. ⌜ b ≡ names number ⌝ }
 {
     number < 2
+}
+
+fn names_lowering(number: u32) -> bool
+    ensures { λ b. ⌜ b ≡ namesLowering number ⌝ }
+{
+    number < 3
 }
 
 // The edition that a number names; of those that name none it may be any.
@@ -44,7 +51,10 @@ fn lowering_of(number: u32) -> Lowering
     if number == 0 {
         return Lowering::Nothing;
     }
-    Lowering::Units
+    if number == 1 {
+        return Lowering::Of(Lowerable::Units);
+    }
+    Lowering::Of(Lowerable::Univalents)
 }
 
 // A plan, or what is answered to numbers that name none.
@@ -59,7 +69,7 @@ pub fn plan_of(edition: u32, recycling: u32, lowering: u32) -> Naming
 {
     if names_one(edition) {
         if names_one(recycling) {
-            if names_one(lowering) {
+            if names_lowering(lowering) {
                 let plan = Plan {
                     edition: edition_of(edition),
                     recycling: recycling_of(recycling),

@@ -10,8 +10,8 @@ names-one-requires c κs = search needs
 names-one-requires-2 : tie.Need-names-one-requires-2
 names-one-requires-2 c κs = search needs
 
-names-one-requires-3 : tie.Need-names-one-requires-3
-names-one-requires-3 c κs = search needs
+names-lowering-requires : tie.Need-names-lowering-requires
+names-lowering-requires c κs = search needs
 
 edition-of-requires : tie.Need-edition-of-requires
 edition-of-requires c κs = search needs
@@ -27,7 +27,7 @@ unfolding planOf
 returns c = rw (
   sym (c .before .before .before .before .before .before .before .before .names-one .ensures) ∙ c .before .before .before .before .before .before .before .if1 .taken,
   sym (c .before .before .before .before .before .before .names-one2 .ensures) ∙ c .before .before .before .before .before .if2 .taken,
-  sym (c .before .before .before .before .names-one3 .ensures) ∙ c .before .before .before .if3 .taken,
+  sym (c .before .before .before .before .names-lowering .ensures) ∙ c .before .before .before .if3 .taken,
   c .before .before .edition-of .ensures,
   c .before .recycling-of .ensures,
   c .lowering-of .ensures,
@@ -38,7 +38,7 @@ unfolding planOf
 returns-2 c = rw (
   sym (c .before .before .before .before .before .names-one .ensures) ∙ c .before .before .before .before .if1 .taken,
   sym (c .before .before .before .names-one2 .ensures) ∙ c .before .before .if2 .taken,
-  sym (c .before .names-one3 .ensures) ∙ c .if3 .left,
+  sym (c .before .names-lowering .ensures) ∙ c .if3 .left,
 )
 
 returns-3 : tie.Need-returns-3
@@ -55,7 +55,7 @@ plan-of-spec =
     (tie.spec
     names-one-requires
     names-one-requires-2
-    names-one-requires-3
+    names-lowering-requires
     edition-of-requires
     recycling-of-requires
     lowering-of-requires
