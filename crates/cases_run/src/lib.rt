@@ -7,7 +7,7 @@
 //   byte 0   what is run: 0 the press, 1 the replay, 2 the replay, shown record by record
 //   byte 1   the edition: 0 narrow, 1 wide
 //   byte 2   the recycling of a press: 0 the reset, 1 the intersection; zero for the replay
-//   byte 3   the lowering of a press: 0 nothing, 1 the units; zero for the replay
+//   byte 3   the lowering of a press: 0 nothing, 1 the units, 2 the univalents; zero for the replay
 //   4-5      bytes of the sheet, at most 49,176
 //   6-7      bytes of the rule table, at most 32,800
 //   8-9      bytes of room for the press, at most 49,188; slots for the replay
@@ -20,6 +20,7 @@
 mod press_case;
 mod replay_case;
 
+use press_spec::Lowerable;
 use press_spec::Lowering;
 use press_spec::Plan;
 use press_spec::Recycling;
@@ -69,10 +70,12 @@ fn recycling_of(byte: u8) -> Recycling {
 
 fn lowering_of(byte: u8) -> Lowering {
     if byte == 0 {
-        Lowering::Nothing
-    } else {
-        Lowering::Units
+        return Lowering::Nothing;
     }
+    if byte == 1 {
+        return Lowering::Of(Lowerable::Units);
+    }
+    Lowering::Of(Lowerable::Univalents)
 }
 
 fn header_of(bytes: &[u8; HEADER]) -> Header {
@@ -104,10 +107,17 @@ fn print_press(recycling: Recycling) {
     }
 }
 
+fn print_lowerable(which: Lowerable) {
+    match which {
+        Lowerable::Units => text::print(b" units"),
+        Lowerable::Univalents => text::print(b" univalents"),
+    }
+}
+
 fn print_lowering(lowering: Lowering) {
     match lowering {
         Lowering::Nothing => text::print(b" nothing"),
-        Lowering::Units => text::print(b" units"),
+        Lowering::Of(which) => print_lowerable(which),
     }
 }
 
