@@ -8,10 +8,12 @@
  * Every call names an edition: the narrow one has 64 variables, records of 24 bytes and rule lines of 16, and the wide one 128, 40
  * and 32. A press also names how it recycles pivots: at a node with several uses, either nothing is kept of what they allow (the reset),
  * or what all of them allow (the intersection, which mostly presses harder and which the program takes). And it names what is lowered
- * after that: nothing, as by the program, or the units, which are clauses of one literal that several steps use; they are then
- * resolved with once, at the end, which makes fewer steps and now and then a higher peak. A number that names no edition is answered
- * TEMPUQUILE_NO_EDITION, one that names no recycling TEMPUQUILE_NO_RECYCLING, and one that names no lowering TEMPUQUILE_NO_LOWERING; they
- * are looked at in this order. None of them is a refusal: nothing is touched then, not even `report`.
+ * after that: nothing, as by the program; the units, which are clauses of one literal that several steps use; or the univalents, which
+ * are nodes that several steps use, all on one and the same literal, and of which nothing else is left but opposites of literals lowered
+ * before. What is lowered is resolved with once, at the end, which makes fewer steps and now and then a higher peak. Neither the units
+ * nor the univalents leave fewer steps on every sheet. A number that names no edition is answered TEMPUQUILE_NO_EDITION, one that names
+ * no recycling TEMPUQUILE_NO_RECYCLING, and one that names no lowering TEMPUQUILE_NO_LOWERING; they are looked at in this order. None of
+ * them is a refusal: nothing is touched then, not even `report`.
  *
  * Otherwise both functions answer 0, or the number of the refusal. Both fill `report` with the words listed below, as many as fit in
  * `report_len`; words beyond the list are untouched. On a refusal word 0 is the number of the record refused and the others are 0.
@@ -40,6 +42,7 @@ extern "C" {
 /* What can be lowered, and what a press answers to any other number. */
 #define TEMPUQUILE_NOTHING_LOWERED 0
 #define TEMPUQUILE_UNITS_LOWERED 1
+#define TEMPUQUILE_UNIVALENTS_LOWERED 2
 #define TEMPUQUILE_NO_LOWERING 253
 
 /*

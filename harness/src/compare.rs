@@ -22,9 +22,11 @@ pub struct Count {
     pub refused: usize,
     /// How many of them named the wide edition.
     pub wide: usize,
-    /// How many of the presses that were accepted named the reset, and the units.
+    /// How many of the presses that were accepted named the reset, the units, and
+    /// the univalents.
     pub reset: usize,
     pub units: usize,
+    pub univalents: usize,
 }
 
 /// The two words of a set, the variables under 64 in the first.
@@ -249,6 +251,7 @@ pub fn case_alike(seed: u64, index: u64, count: &mut Count) -> Result<(), Differ
                     count.pressed += 1;
                     count.reset += usize::from(plan.recycling == Recycling::Reset);
                     count.units += usize::from(plan.lowering == Lowering::Units);
+                    count.univalents += usize::from(plan.lowering == Lowering::Univalents);
                 }
             }
         }

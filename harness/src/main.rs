@@ -10,7 +10,7 @@ const USAGE: &str = "usage:
   harness compare [--seed S] [--count N]     a seed of its own, and 20000 cases, if none is given
   harness bench [PASSES]
   harness calls library|reference press|replay SHEET N [PASSES]
-where PASSES are --recycling reset|intersection and --lowering nothing|units; the program's, if none is named";
+where PASSES are --recycling reset|intersection and --lowering nothing|units|univalents; the program's, if none is named";
 
 fn main() -> ExitCode {
     let words: Vec<String> = std::env::args().skip(1).collect();
@@ -69,8 +69,8 @@ fn compare(flags: &[&str]) -> Option<bool> {
         }
     }
     println!(
-        "seed {seed}: {} pressed, {} of them by the reset and {} with the units lowered, and replayed at the peak and one below, {} replayed, {} refused; {} wide",
-        seen.pressed, seen.reset, seen.units, seen.replayed, seen.refused, seen.wide
+        "seed {seed}: {} pressed, {} of them by the reset, {} with the units lowered and {} with the univalents, and replayed at the peak and one below, {} replayed, {} refused; {} wide",
+        seen.pressed, seen.reset, seen.units, seen.univalents, seen.replayed, seen.refused, seen.wide
     );
     println!("{count} compared, {different} different");
     Some(different == 0)
