@@ -163,4 +163,5 @@ fn the_tables_of_the_definitions_are_committed() {
     assert!(committed("Wide.antt") == tables::wide().as_bytes());
     assert!(committed("Recyclings.antt") == tables::recyclings().as_bytes());
     assert!(committed("Lowerings.antt") == tables::lowerings().as_bytes());
+    assert!(committed("Univalents.antt") == tables::univalents().as_bytes());
 }
