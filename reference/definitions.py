@@ -11,6 +11,7 @@ ROOT = pathlib.Path(__file__).resolve().parent.parent
 BATCH = 25
 EDITIONS = ["narrow", "wide"]
 LOWERINGS = {"nothing": "Nothing", "units": "(Of Units)", "univalents": "(Of Univalents)"}
+ORDERS = {"bottom-up": 0, "top-down": 1}
 
 
 def numbers(values):
@@ -26,7 +27,7 @@ def answer(words):
     """The numbers of an answer line, and whether it is a refusal."""
     if words[1] == "refused":
         return [int(words[2]), int(words[3])], True
-    return [int(words[2], 16), int(words[3], 16)] + [int(w) for w in words[5::2]], False
+    return [int(words[2], 16), int(words[3], 16)] + [ORDERS[w] if w in ORDERS else int(w) for w in words[5::2]], False
 
 
 def slot(word):

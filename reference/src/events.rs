@@ -1,9 +1,10 @@
 //! Interesting things that may happen inside an accepted press.
 
 use crate::clause::{Clause, Literal};
+use crate::passes::bottom_up::bottom_up_by;
 use crate::passes::drops::{peak, with_drops};
 use crate::passes::lower::{Low, Lowered, Return};
-use crate::passes::order::{order, order_by};
+use crate::passes::order::ordered;
 use crate::passes::rebuild::Why;
 use crate::passes::recycle::{uncut_edges, Edge};
 use crate::passes::univalents::{lower_by, lowers, Turn};
@@ -122,8 +123,9 @@ pub fn high_events(passes: &Passes) -> Vec<Event> {
     ]
 }
 
-/// Whether the preference among premises made a difference: against going left
-/// always, against ties going right, and against counting children as 002 does.
+/// Whether the preference among premises made a difference to the bottom-up order:
+/// against going left always, against ties going right, and against counting children
+/// as 002 does. And how the two orders compare.
 fn order_events(passes: &Passes) -> Vec<Event> {
     let pressed = &passes.pressed;
     let uses = pressed.uses();
@@ -132,8 +134,12 @@ fn order_events(passes: &Passes) -> Vec<Event> {
         pressed.nodes.values().filter(names_it).count()
     };
     let counts: BTreeMap<usize, usize> = pressed.nodes.keys().map(|&n| (n, children(n))).collect();
-    let differs =
-        |right_first: &dyn Fn(usize, usize) -> bool| order_by(pressed, right_first) != passes.order;
+    let differs = |right_first: &dyn Fn(usize, usize) -> bool| {
+        bottom_up_by(pressed, right_first) != passes.bottom_up
+    };
+    let orders = [&passes.bottom_up, &passes.top_down];
+    let [old_peak, new_peak] = orders.map(|order| peak(&with_drops(pressed, order)));
+    let same = passes.bottom_up == passes.top_down;
     vec![
         ("order: decided by uses", differs(&|_, _| false)),
         (
@@ -144,6 +150,9 @@ fn order_events(passes: &Passes) -> Vec<Event> {
             "order: counting children would differ",
             differs(&|l, r| counts[&r] > counts[&l]),
         ),
+        ("order: top-down has the smaller peak", new_peak < old_peak),
+        ("order: top-down has the larger peak", new_peak > old_peak),
+        ("order: two orders, one peak", new_peak == old_peak && !same),
     ]
 }
 
@@ -183,7 +192,7 @@ fn sharing_events(recycling: Recycling, passes: &Passes) -> Vec<Event> {
 /// What lowering came to, whatever was lowered.
 fn lowering_events(passes: &Passes, lowered: &Lowered) -> Vec<Event> {
     let before = &passes.recycled;
-    let records = with_drops(before, &order(before));
+    let records = ordered(before).records;
     let [old_peak, new_peak] = [&records, &passes.records].map(|records| peak(records));
     let both_ways = |proof: &Proof| {
         let mut nodes = proof.nodes.values();

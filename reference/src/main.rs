@@ -134,7 +134,8 @@ fn write_tables(dir: &str) -> Result<(), String> {
     write(dir, "Wide.antt", tables::wide().as_bytes())?;
     write(dir, "Recyclings.antt", tables::recyclings().as_bytes())?;
     write(dir, "Lowerings.antt", tables::lowerings().as_bytes())?;
-    write(dir, "Univalents.antt", tables::univalents().as_bytes())
+    write(dir, "Univalents.antt", tables::univalents().as_bytes())?;
+    write(dir, "Orders.antt", tables::orders().as_bytes())
 }
 
 fn write(dir: &str, name: &str, bytes: &[u8]) -> Result<(), String> {

@@ -3,9 +3,9 @@
 use crate::edition::Edition;
 use crate::judge::{faults, judge, Around, Named};
 use crate::lengths::{check_inputs, check_room};
-use crate::passes::drops::{peak, with_drops};
+use crate::passes::drops::peak;
 use crate::passes::lower::Lowered;
-use crate::passes::order::order;
+use crate::passes::order::{ordered, Order, Ordered};
 use crate::passes::rebuild::{rebuild, Rebuilt};
 use crate::passes::recycle::{cuts, recycle, Visits};
 use crate::passes::trim::trim;
@@ -18,7 +18,8 @@ use crate::refusal::Refusal;
 use std::collections::{BTreeMap, BTreeSet};
 
 /// "An accepted press returns conclusion, record count, node count, step count
-/// (resolution records), peak and number of marked lines."
+/// (resolution records), peak and number of marked lines." And of the two orders,
+/// "the answer says which it was".
 #[derive(Clone, Copy, Debug, PartialEq, Eq)]
 pub struct Pressed {
     pub positive: u128,
@@ -28,6 +29,7 @@ pub struct Pressed {
     pub steps: usize,
     pub peak: usize,
     pub marked: usize,
+    pub order: Order,
 }
 
 /// What every pass left behind, kept so that tests and the coverage table can
@@ -41,8 +43,20 @@ pub struct Passes {
     pub recycled: Proof,
     pub lowered: Option<Lowered>,
     pub pressed: Proof,
-    pub order: Vec<usize>,
+    pub bottom_up: Vec<usize>,
+    pub top_down: Vec<usize>,
+    pub emitted: Order,
     pub records: Vec<Record>,
+}
+
+impl Passes {
+    /// The order that is emitted.
+    pub fn order(&self) -> &[usize] {
+        match self.emitted {
+            Order::BottomUp => &self.bottom_up,
+            Order::TopDown => &self.top_down,
+        }
+    }
 }
 
 /// "A refused press changes neither output nor marks." Both are written only
@@ -76,6 +90,7 @@ pub fn press(
         steps: passes.pressed.steps(),
         peak: peak(&passes.records),
         marked: core.len(),
+        order: passes.emitted,
     })
 }
 
@@ -130,8 +145,12 @@ pub fn run_passes(plan: Plan, input: Proof) -> Passes {
         None => recycled.clone(),
         Some(lowered) => trim(&lowered.nodes, lowered.conclusion),
     };
-    let order = order(&pressed);
-    let records = with_drops(&pressed, &order);
+    let Ordered {
+        bottom_up,
+        top_down,
+        emitted,
+        records,
+    } = ordered(&pressed);
     Passes {
         input,
         trimmed,
@@ -140,7 +159,9 @@ pub fn run_passes(plan: Plan, input: Proof) -> Passes {
         recycled,
         lowered,
         pressed,
-        order,
+        bottom_up,
+        top_down,
+        emitted,
         records,
     }
 }

@@ -2,13 +2,14 @@
 //!
 //! Each case is a block of lines that ends with an empty line. Words are
 //! separated by single spaces. An edition is `narrow` or `wide`, a recycling
-//! `reset` or `intersection`, a lowering `nothing`, `units` or `univalents`. Byte
-//! strings are lower-case hex, `-` if empty; sets are numbers whose bit v is
-//! variable v, of 16 hex digits, or 32 in the wide edition; all else is decimal.
+//! `reset` or `intersection`, a lowering `nothing`, `units` or `univalents`, an order
+//! `bottom-up` or `top-down`. Byte strings are lower-case hex, `-` if empty; sets are
+//! numbers whose bit v is variable v, of 16 hex digits, or 32 in the wide edition; all
+//! else is decimal.
 //!
 //! ```text
 //! press <edition> <recycling> <lowering> <sheet> <rules> <bytes of room> <bytes of marks>
-//! = ok <positive> <negative> records R nodes N steps S peak P marked M
+//! = ok <positive> <negative> records R nodes N steps S peak P marked M order <order>
 //! out <the emitted records>
 //! marks <one byte for each rule line>
 //!
@@ -111,14 +112,15 @@ fn set(edition: Edition, number: u128) -> String {
 
 pub(crate) fn pressed_line(edition: Edition, pressed: &Pressed) -> String {
     format!(
-        "= ok {} {} records {} nodes {} steps {} peak {} marked {}\n",
+        "= ok {} {} records {} nodes {} steps {} peak {} marked {} order {}\n",
         set(edition, pressed.positive),
         set(edition, pressed.negative),
         pressed.records,
         pressed.nodes,
         pressed.steps,
         pressed.peak,
-        pressed.marked
+        pressed.marked,
+        pressed.order.word()
     )
 }
 

@@ -62,7 +62,7 @@ fn units_come_back_in_the_order_of_their_collection() {
 fn new_steps_are_numbered_above_all() {
     let passes = lower(&everywhere());
     assert_eq!(passes.recycled.sink, 8);
-    assert_eq!(passes.order, [0, 2, 5, 8, 1, 9, 10]);
+    assert_eq!(passes.bottom_up, [0, 2, 5, 8, 1, 9, 10]);
 }
 
 /// "over all nodes": node 2 is rebuilt too, though the sink no longer reaches it.
@@ -159,7 +159,7 @@ fn uses_of_a_unit_that_stays_away_do_not_count() {
     assert_eq!(low(&passes), expected);
     let nodes = &lowered(&passes).nodes;
     assert!(nodes.contains_key(&1) && !passes.pressed.nodes.contains_key(&1));
-    let place = |node| passes.order.iter().position(|&n| n == node).unwrap();
+    let place = |node| passes.bottom_up.iter().position(|&n| n == node).unwrap();
     assert!(place(15) < place(0));
 }
 
@@ -174,7 +174,7 @@ fn units_over_63() {
     let passes = lower(&high_everywhere());
     let expected = [low_one(1, "-64", NewStep), low_one(0, "+0", NewStep)];
     assert_eq!(low(&passes), expected);
-    assert_eq!(passes.order, lower(&everywhere()).order);
+    assert_eq!(passes.order(), lower(&everywhere()).order());
     assert!(low(&lower(&one_in_each_half())).is_empty());
 }
 

@@ -36,7 +36,7 @@ fn a_shared_node_keeps_what_its_uncut_edge_hands_it() {
     assert_eq!(cuts(&passes), [(3, Edge::Right), (6, Edge::Left)]);
     let stand_ins = [3, 6].map(|node| passes.rebuilt.stand_ins[&node]);
     assert_eq!(stand_ins, [2, 5]);
-    assert_eq!(passes.order, [0, 2, 4, 5, 1, 7, 8]);
+    assert_eq!(passes.bottom_up, [0, 2, 4, 5, 1, 7, 8]);
     let reset = passes_by(Reset, &all_allow());
     assert_eq!(sets(&reset, [4, 3]), ["", "-1"].map(clause));
     assert_eq!(cuts(&reset), [(6, Edge::Left)]);

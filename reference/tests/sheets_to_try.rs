@@ -3,6 +3,7 @@
 mod common;
 
 use common::*;
+use reference::passes::order::Order;
 use reference::press::Pressed;
 use reference::replay::Replayed;
 
@@ -39,6 +40,7 @@ fn lone_is_one_record() {
         steps: 0,
         peak: 1,
         marked: 1,
+        order: Order::BottomUp,
     };
     assert_eq!(done.pressed, expected);
 }
@@ -57,6 +59,7 @@ fn pair_gives_the_printed_bytes() {
         steps: 1,
         peak: 3,
         marked: 2,
+        order: Order::BottomUp,
     };
     assert_eq!(done.pressed, expected);
 }

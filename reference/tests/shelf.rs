@@ -43,7 +43,7 @@ fn the_page_says_what_is_printed() {
     fs::write(dir.join("rules.bin"), shelf.rules()).unwrap();
     fs::write(dir.join("sheet.bin"), shelf.sheet()).unwrap();
     let line = program::run(&dir);
-    assert_eq!(line, "ok records 31 nodes 16 steps 8 peak 6 core 8");
+    assert_eq!(line, "ok records 31 nodes 16 steps 8 peak 5 core 8");
     let pressed = fs::read(dir.join("pressed.bin")).unwrap();
     assert_eq!(Some(pressed), shelf.pressed());
     let page = fs::read_to_string(committed().join("README.md")).unwrap();
@@ -83,7 +83,7 @@ fn the_page_says_what_the_technician_may_change() {
 fn the_lamps_line_is_not_to_be_taken_out() {
     let mut rules = told().rules();
     rules.drain(6 * 16..7 * 16);
-    assert_eq!(said(&rules, 6), "13 at 0");
+    assert_eq!(said(&rules, 5), "13 at 0");
 }
 
 #[test]

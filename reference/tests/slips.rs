@@ -4,7 +4,7 @@ mod common;
 
 use common::*;
 use reference::clause::Literal;
-use reference::passes::order::order;
+use reference::passes::bottom_up::bottom_up;
 use reference::passes::rebuild::Why;
 use reference::passes::recycle::Edge;
 use reference::press::Passes;
@@ -31,20 +31,21 @@ fn the_kept_side_of_a_cut() {
 fn a_left_edge_cut() {
     let (input, table) = mirrored().bytes();
     let done = press_ok(&input, &table);
+    // top-down: bottom-up {+0} comes first, and the peak is 4
     let expected = [
-        given(3, "+0"),
-        given(2, "-0 +1"),
         given(0, "-0 -1"),
-        step(1, 1, 2, "-0"),
-        dropped(1),
-        dropped(2),
-        step(0, 0, 3, ""),
+        given(2, "-0 +1"),
+        step(1, 1, 0, "-0"),
         dropped(0),
+        dropped(1),
+        given(3, "+0"),
+        step(0, 3, 2, ""),
+        dropped(2),
         dropped(3),
     ];
     assert_eq!(done.out, sheet(&expected));
     assert_eq!(done.core, [0, 2, 3]);
-    assert_eq!(done.pressed.peak, 4);
+    assert_eq!(done.pressed.peak, 3);
 }
 
 /// Node 2 is used by two steps on different sides of pivot 0, so nothing above
@@ -125,7 +126,7 @@ fn marks_are_of_the_pressed_sheet() {
 #[test]
 fn more_uses_go_first() {
     let passes = passes_of(&heavier_right());
-    assert_eq!(passes.order, [0, 1, 3, 2, 4, 5]);
+    assert_eq!(passes.bottom_up, [0, 1, 3, 2, 4, 5]);
 }
 
 /// "one step naming it twice counts two".
@@ -134,7 +135,7 @@ fn uses_count_places_and_not_children() {
     let passes = passes_of(&places());
     let uses = passes.pressed.uses();
     assert_eq!((uses[&2], uses[&1]), (3, 2));
-    assert_eq!(passes.order, [0, 1, 2, 5, 3, 4, 6]);
+    assert_eq!(passes.bottom_up, [0, 1, 2, 5, 3, 4, 6]);
 }
 
 #[test]
@@ -144,8 +145,8 @@ fn the_second_trim_lowers_uses() {
         nodes: passes.rebuilt.nodes.clone(),
         sink: passes.pressed.sink,
     };
-    assert_eq!(passes.order[..2], [2, 3]);
-    assert_eq!(order(&untrimmed)[..2], [3, 2]);
+    assert_eq!(passes.bottom_up[..2], [2, 3]);
+    assert_eq!(bottom_up(&untrimmed)[..2], [3, 2]);
 }
 
 /// "left stand-in lacks +p, take it; else right lacks -p, take that": where

@@ -8,9 +8,8 @@ use common::univalents::*;
 use common::*;
 use reference::cases::facts::lemmas;
 use reference::clause::{Clause, Literal};
-use reference::passes::drops::with_drops;
 use reference::passes::lower::come_back;
-use reference::passes::order::order;
+use reference::passes::order::ordered;
 use reference::passes::trim::trim;
 use reference::passes::univalents::{literals_of_uses, lower_by, lower_univalents, lowers, Turn};
 use reference::press::Passes;
@@ -27,8 +26,7 @@ fn steps(worked: &Worked) -> [usize; 3] {
 }
 
 fn records(lowered: &Lowered) -> Vec<Record> {
-    let pressed = trim(&lowered.nodes, lowered.conclusion);
-    with_drops(&pressed, &order(&pressed))
+    ordered(&trim(&lowered.nodes, lowered.conclusion)).records
 }
 
 /// Whether a pass that lowers by this rule presses the sheet to other records.
@@ -229,7 +227,7 @@ fn univalents_over_63() {
     let passes = lower(&high_after());
     let expected = [low_one(1, "+0", NewStep), low_one(0, "-64", NewStep)];
     assert_eq!(low(&passes), expected);
-    assert_eq!(passes.order, lower(&after()).order);
+    assert_eq!(passes.order(), lower(&after()).order());
 }
 
 /// Of every node, with D read off those that were lowered before it.

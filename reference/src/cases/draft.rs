@@ -125,7 +125,7 @@ impl Draft {
     }
 
     /// The same proof with another clause on a rule line, in which the old one lies.
-    fn with_rule(&self, line: usize, clause: Clause) -> Draft {
+    pub fn with_rule(&self, line: usize, clause: Clause) -> Draft {
         let mut draft = Draft {
             nodes: vec![],
             rules: self.rules.clone(),

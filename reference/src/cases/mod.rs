@@ -7,6 +7,7 @@ pub mod draft;
 pub mod drop_damage;
 pub mod facts;
 pub mod forward;
+pub mod hanging;
 pub mod press_cases;
 pub mod replay_cases;
 pub mod shapes;

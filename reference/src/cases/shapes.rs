@@ -5,6 +5,7 @@ use crate::cases::dense::{lattice, tower};
 use crate::cases::draft::Draft;
 use crate::cases::facts::{facts, lemmas};
 use crate::cases::forward::forward;
+use crate::cases::hanging::hanging;
 use crate::cases::woven::woven;
 use crate::clause::{Clause, Literal};
 use crate::edition::Edition;
@@ -23,7 +24,7 @@ pub fn draw(rng: &mut Rng, edition: Edition, size: usize) -> Draft {
 fn valid(rng: &mut Rng, edition: Edition, size: usize) -> Draft {
     let variables = draw_variables(rng, edition);
     let depth_wanted = size == edition.press_records() && rng.chance(15);
-    let shape = if depth_wanted { 34 } else { rng.below(35) };
+    let shape = if depth_wanted { 34 } else { rng.below(39) };
     let mut draft = match shape {
         0..=5 => forward(rng, edition, &variables, size),
         6..=11 => backward(rng, edition, &variables, size),
@@ -31,7 +32,8 @@ fn valid(rng: &mut Rng, edition: Edition, size: usize) -> Draft {
         15..=20 => facts(rng, edition, size),
         21..=29 => lemmas(rng, edition, size),
         30..=33 => lattice(rng, edition, size),
-        _ => tower(rng, edition, &variables, size),
+        34 => tower(rng, edition, &variables, size),
+        _ => hanging(rng, edition, size),
     };
     pad(rng, &variables, &mut draft, size);
     if rng.chance(40) {
@@ -88,7 +90,7 @@ fn pad(rng: &mut Rng, variables: &[u8], draft: &mut Draft, size: usize) {
 
 /// Another order of the same nodes, parents still before children, the sink
 /// still last.
-fn shuffled(rng: &mut Rng, draft: &Draft) -> Draft {
+pub(super) fn shuffled(rng: &mut Rng, draft: &Draft) -> Draft {
     let sink = draft.nodes.len() - 1;
     let mut waiting: Vec<usize> = (0..sink).collect();
     rng.shuffle(&mut waiting);

@@ -1,39 +1,71 @@
-use crate::proof::{Node, Proof};
+use crate::passes::bottom_up::bottom_up;
+use crate::passes::drops::{peak, with_drops};
+use crate::passes::top_down::top_down;
+use crate::proof::Proof;
+use crate::record::Record;
 
-/// "Of two premises the one with more uses in the pressed proof goes first;
-/// equal: left."
-pub fn order(pressed: &Proof) -> Vec<usize> {
-    let uses = pressed.uses();
-    order_by(pressed, &|left, right| uses[&right] > uses[&left])
+/// Which of the two orders is emitted.
+#[derive(Clone, Copy, Debug, PartialEq, Eq, PartialOrd, Ord)]
+pub enum Order {
+    BottomUp,
+    TopDown,
 }
 
-/// The same walk under any preference, so that the coverage table can tell
-/// when the preference made a difference.
-pub fn order_by(pressed: &Proof, right_first: &dyn Fn(usize, usize) -> bool) -> Vec<usize> {
-    let mut placed = vec![];
-    place(pressed, pressed.sink, right_first, &mut placed);
-    placed
+use Order::{BottomUp, TopDown};
+
+impl Order {
+    pub const ALL: [Order; 2] = [BottomUp, TopDown];
+
+    /// The number that names it for C.
+    pub fn number(self) -> u8 {
+        match self {
+            BottomUp => 0,
+            TopDown => 1,
+        }
+    }
+
+    pub fn word(self) -> &'static str {
+        match self {
+            BottomUp => "bottom-up",
+            TopDown => "top-down",
+        }
+    }
 }
 
-/// "Starting from the sink, the premises are placed first, then the node
-/// itself, each node once."
-fn place(
-    pressed: &Proof,
-    number: usize,
-    right_first: &dyn Fn(usize, usize) -> bool,
-    placed: &mut Vec<usize>,
-) {
-    if placed.contains(&number) {
-        return;
+/// Both orders of a proof, and the records of the one that is emitted.
+pub struct Ordered {
+    pub bottom_up: Vec<usize>,
+    pub top_down: Vec<usize>,
+    pub emitted: Order,
+    pub records: Vec<Record>,
+}
+
+/// Steps 5 and 6. Document 02 (xiii): "Work out both orders and emit the one with
+/// the smaller peak; equal: the old one."
+pub fn ordered(pressed: &Proof) -> Ordered {
+    let (bottom_up, top_down) = (bottom_up(pressed), top_down(pressed));
+    let [old, new] = [&bottom_up, &top_down].map(|order| with_drops(pressed, order));
+    let (emitted, records) = match peak(&new) < peak(&old) {
+        true => (TopDown, new),
+        false => (BottomUp, old),
+    };
+    Ordered {
+        bottom_up,
+        top_down,
+        emitted,
+        records,
     }
-    if let Node::Step { left, right, .. } = pressed.nodes[&number] {
-        let (first, second) = if right_first(left, right) {
-            (right, left)
-        } else {
-            (left, right)
-        };
-        place(pressed, first, right_first, placed);
-        place(pressed, second, right_first, placed);
+}
+
+#[cfg(test)]
+mod tests {
+    use super::*;
+
+    #[test]
+    fn an_order_is_named_by_its_number_and_its_word() {
+        for (number, of) in Order::ALL.into_iter().enumerate() {
+            assert_eq!(usize::from(of.number()), number);
+        }
+        assert_eq!(Order::ALL.map(Order::word), ["bottom-up", "top-down"]);
     }
-    placed.push(number);
 }

@@ -2,11 +2,13 @@
 //! sheets of document 01 (`starred`), sheets for sentences that those do not
 //! tell apart (`telling`), sheets that tell the recyclings from each other and
 //! from wrong ones (`recycling`), sheets that do so for the lowerings (`lowering`,
-//! `univalents`), and sheets of the wide edition (`wide`). The tests, the streams
-//! of cases, the tables of the definitions (`tables`), the tests of the built
-//! program and the harness all take them from here.
+//! `univalents`) and for the orders (`orders`), and sheets of the wide edition
+//! (`wide`). The tests, the streams of cases, the tables of the definitions
+//! (`tables`), the tests of the built program and the harness all take them from
+//! here.
 
 pub mod lowering;
+pub mod orders;
 pub mod recycling;
 pub mod starred;
 pub mod telling;

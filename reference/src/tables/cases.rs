@@ -1,9 +1,9 @@
 //! Cases of a table: a worked sheet, and what this program makes of it.
 
-use super::terms::{bytes_term, edition, list, lowering, recycling, set};
+use super::terms::{bytes_term, edition, list, lowering, order, recycling, set};
 use crate::edition::Edition;
 use crate::plan::{Lowering, Recycling};
-use crate::press::press;
+use crate::press::{press, Pressed};
 use crate::record::Record;
 use crate::refusal::Refusal;
 use crate::replay::{replay, Slot};
@@ -74,21 +74,18 @@ fn pressing(
     worked: &Worked,
     room: usize,
     marks: usize,
-) -> (Result<Vec<String>, Refusal>, Vec<u8>) {
+) -> (Result<Pressed, Refusal>, Vec<u8>) {
     let (sheet, rules) = worked.bytes();
     how.made(|recycling, lowering| {
         let (mut out, mut marks) = (vec![OLD; room], vec![OLD; marks]);
         let plan = worked.plan(recycling, lowering);
-        let said = press(plan, &sheet, &rules, &mut out, &mut marks).map(|p| {
-            let counts = [p.records, p.nodes, p.steps, p.peak, p.marked];
-            said(p.positive, p.negative, &counts)
-        });
-        (said, marks)
+        let answer = press(plan, &sheet, &rules, &mut out, &mut marks);
+        (answer, marks)
     })
 }
 
 /// With as much room and marks as it needs.
-fn pressing_in_room(how: How, worked: &Worked) -> (Result<Vec<String>, Refusal>, Vec<u8>) {
+fn pressing_in_room(how: How, worked: &Worked) -> (Result<Pressed, Refusal>, Vec<u8>) {
     let room = worked.edition.room(worked.records.len());
     pressing(how, worked, room, worked.rules.len())
 }
@@ -103,11 +100,13 @@ fn said(positive: u128, negative: u128, counts: &[usize]) -> Vec<String> {
 
 pub(super) fn accepts(how: How, worked: &Worked) -> String {
     let (name, plan) = (worked.name, how.plan(worked));
-    let (said, marks) = pressing_in_room(how, worked);
-    let said = list(&said.expect("the press takes it"));
-    let bytes = pressed_term(how, worked);
+    let (answer, marks) = pressing_in_room(how, worked);
+    let p = answer.expect("the press takes it");
+    let counts = [p.records, p.nodes, p.steps, p.peak, p.marked];
+    let said = list(&said(p.positive, p.negative, &counts));
+    let (order, bytes) = (order(p.order), pressed_term(how, worked));
     let marks = list(&marks);
-    format!("accepts {plan} {name}Rules {name} ({said}) {bytes} ({marks})")
+    format!("accepts {plan} {name}Rules {name} ({said}) {order} {bytes} ({marks})")
 }
 
 /// What the press writes. That of *pair* stands as bytes, the others as records.

@@ -3,7 +3,10 @@
 //! replay of this program make of them.
 
 mod cases;
+mod orders;
 mod terms;
+
+pub use orders::orders;
 
 use crate::edition::Edition::Wide;
 use crate::plan::Lowering::{Nothing, Units, Univalents};
@@ -30,6 +33,7 @@ use Rattle.sheet.specs.Records.{given, step, Record, node, drop}
 use Rattle.sheet.specs.Fields.{sheetBytes}
 use Rattle.press_spec.specs.declared.Recycling.{Recycling}
 use Rattle.press_spec.specs.declared.Lowering.the-variants.{Nothing}
+use Rattle.press_spec.specs.declared.Order.the-variants.{BottomUp}
 use Rattle.press_spec.specs.Plans.{plan}
 use Rattle.demands.specs.Cases.{Case, accepts, refuses, replayed, allRight}
 "#;
@@ -44,6 +48,7 @@ use Rattle.sheet.specs.Records.{given, step, Record, node, drop}
 use Rattle.sheet.specs.Fields.{sheetBytes}
 use Rattle.press_spec.specs.declared.Recycling.{Recycling}
 use Rattle.press_spec.specs.declared.Lowering.the-variants.{Nothing}
+use Rattle.press_spec.specs.declared.Order.the-variants.{BottomUp, TopDown}
 use Rattle.press_spec.specs.Plans.{plan}
 use Rattle.demands.specs.Cases.{Case, presses, replays, accepts, refuses, replayed, ruleTable, junk, dirty, allRight}
 use Rattle.demands.specs.Starred.{pairRules, pair, irregularRules, irregular}
@@ -59,6 +64,7 @@ use Rattle.sheet.specs.Records.{given, step, Record, node, drop}
 use Rattle.sheet.specs.Fields.{sheetBytes}
 use Rattle.press_spec.specs.declared.Recycling.{Recycling}
 use Rattle.press_spec.specs.declared.Lowering.the-variants.{Nothing}
+use Rattle.press_spec.specs.declared.Order.the-variants.{BottomUp}
 use Rattle.press_spec.specs.Plans.{plan}
 use Rattle.demands.specs.Cases.{Case, presses, replays, accepts, refuses, replayed, ruleTable, junk, clean, allRight}
 use Rattle.demands.specs.Starred.{loneRules, lone, lonePressed}
@@ -74,6 +80,7 @@ use Rattle.sheet.specs.Records.{given, step, Record, node, drop}
 use Rattle.sheet.specs.Fields.{sheetBytes}
 use Rattle.press_spec.specs.declared.Recycling.the-variants.{Reset, Intersection}
 use Rattle.press_spec.specs.declared.Lowering.the-variants.{Nothing}
+use Rattle.press_spec.specs.declared.Order.the-variants.{BottomUp}
 use Rattle.press_spec.specs.Plans.{plan}
 use Rattle.demands.specs.Cases.{Case, accepts, allRight}
 "#;
@@ -89,6 +96,7 @@ use Rattle.sheet.specs.Fields.{sheetBytes}
 use Rattle.press_spec.specs.declared.Recycling.the-variants.{Reset, Intersection}
 use Rattle.press_spec.specs.declared.Lowering.the-variants.{Of}
 use Rattle.press_spec.specs.declared.Lowerable.the-variants.{Units}
+use Rattle.press_spec.specs.declared.Order.the-variants.{BottomUp, TopDown}
 use Rattle.press_spec.specs.Plans.{plan}
 use Rattle.demands.specs.Cases.{Case, accepts, allRight}
 "#;
@@ -105,6 +113,7 @@ use Rattle.sheet.specs.Fields.{sheetBytes}
 use Rattle.press_spec.specs.declared.Recycling.the-variants.{Intersection}
 use Rattle.press_spec.specs.declared.Lowering.the-variants.{Of}
 use Rattle.press_spec.specs.declared.Lowerable.the-variants.{Univalents}
+use Rattle.press_spec.specs.declared.Order.the-variants.{BottomUp}
 use Rattle.press_spec.specs.Plans.{plan}
 use Rattle.demands.specs.Cases.{Case, accepts, allRight}
 use Rattle.demands.specs.Lowerings.{opposites, oppositesRules, stays, staysRules, fewer, fewerRules, fewerLowered}

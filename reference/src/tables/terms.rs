@@ -2,6 +2,7 @@
 
 use crate::clause::Clause;
 use crate::edition::Edition;
+use crate::passes::order::Order;
 use crate::plan::{Lowering, Recycling};
 use crate::proof::Node;
 use crate::record::Record;
@@ -108,6 +109,13 @@ pub(super) fn lowering(lowering: Lowering) -> &'static str {
         Lowering::Nothing => "Nothing",
         Lowering::Units => "(Of Units)",
         Lowering::Univalents => "(Of Univalents)",
+    }
+}
+
+pub(super) fn order(order: Order) -> &'static str {
+    match order {
+        Order::BottomUp => "BottomUp",
+        Order::TopDown => "TopDown",
     }
 }
 

@@ -33,8 +33,8 @@ pub fn replays(edition: Edition) -> Vec<Entry> {
 pub fn pivot_and_forward(edition: Edition) -> Vec<Entry> {
     let of = |worked: Worked| both_of(&worked.in_edition(edition), 3);
     let table = pair().in_edition(edition).table();
-    // pivot: 63 is accepted, 64 is refused
-    let mut entries = of(pivot());
+    // pivot: 63 is accepted, also by the press (`presses`), 64 is refused
+    let mut entries = vec![replay_sheet(&pivot().in_edition(edition), 3)];
     entries.extend(of(pivot_64()));
     // forward: the left parent, the right one, both, the largest number
     entries.extend(of(forward()));

@@ -15,7 +15,7 @@ use crate::stream::Entry;
 
 pub fn entries() -> Vec<Entry> {
     let both = Edition::ALL.into_iter().flat_map(of_both);
-    both.chain(wide::entries()).collect()
+    both.chain(passes::cuts()).chain(wide::entries()).collect()
 }
 
 /// Of these replays only the answers are shown.
@@ -52,10 +52,10 @@ fn of_both(edition: Edition) -> Vec<Entry> {
         passes::slips(edition),
         passes::stand_ins(edition),
         passes::orders(edition),
-        passes::cuts(edition),
         passes::recyclings(edition),
         passes::units(edition),
         passes::univalents(edition),
+        passes::two_orders(edition),
     ]
     .concat()
 }

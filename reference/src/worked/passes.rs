@@ -1,9 +1,11 @@
 //! "Slips that look right", and what the passes can come to.
 
-use super::{press_by_each, press_lowering, press_sheet};
+use super::{press, press_by_each, press_lowering, press_sheet};
+use crate::cases::stages::{stages, Givens};
 use crate::edition::Edition;
 use crate::plan::{Lowering, Recycling};
 use crate::sheets::lowering::*;
+use crate::sheets::orders::*;
 use crate::sheets::recycling::*;
 use crate::sheets::telling::*;
 use crate::sheets::univalents::*;
@@ -41,22 +43,23 @@ pub fn orders(edition: Edition) -> Vec<Entry> {
     presses(edition, [heavier_right(), places(), second_trim()])
 }
 
-/// The rest of what the definitions compute.
-pub fn cuts(edition: Edition) -> Vec<Entry> {
-    presses(edition, [right_cut(), left_cut(), either_way()])
-}
-
-/// "Shared nodes keep what all uses allow."
-pub fn recyclings(edition: Edition) -> Vec<Entry> {
+/// The rest of what the definitions compute, which hangs on no variable.
+pub fn cuts() -> Vec<Entry> {
     let sheets = [
-        all_allow(),
-        reset_shorter(),
-        keeps_common(),
+        right_cut(),
+        left_cut(),
+        either_way(),
         cut_use(),
         unreached_use(),
     ];
-    let press = |worked: Worked| press_by_each(&worked.in_edition(edition));
-    sheets.into_iter().flat_map(press).collect()
+    presses(Edition::Narrow, sheets)
+}
+
+/// "Shared nodes keep what all uses allow." One sheet is pressed by each recycling in
+/// both editions.
+pub fn recyclings(edition: Edition) -> Vec<Entry> {
+    let by_each = press_by_each(&reset_shorter().in_edition(edition));
+    [presses(edition, [all_allow(), keeps_common()]), by_each].concat()
 }
 
 /// Presses by this lowering: by the reset, and by the intersection.
@@ -108,4 +111,27 @@ pub fn univalents(edition: Edition) -> Vec<Entry> {
         Edition::Wide => (vec![], vec![high_after(), one_in_each_half()]),
     };
     lowering(Lowering::Univalents, &reset, &intersection)
+}
+
+/// How many nodes the long chain has: of these 20 are held bottom-up and 4 top-down.
+const LONG: usize = 40;
+
+/// "Work out both orders and emit the one with the smaller peak; equal: the old one."
+/// In the wide edition only what is about its variables.
+pub fn two_orders(edition: Edition) -> Vec<Entry> {
+    if edition == Edition::Wide {
+        return lowering(Lowering::Nothing, &[], &[high_left_givens()]);
+    }
+    let sheets = [
+        left_givens(),
+        equal_peaks(),
+        early_given(),
+        still_needed(),
+        two_dropped(),
+    ];
+    let mut entries = lowering(Lowering::Nothing, &[named_twice()], &sheets);
+    let long = stages(edition, LONG, Givens::Held);
+    let (sheet, rules) = (long.sheet(edition), long.rule_table(edition));
+    entries.push(press(edition, &sheet, &rules));
+    entries
 }
