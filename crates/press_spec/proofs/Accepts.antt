@@ -27,7 +27,7 @@ use Rattle.sheet.proofs.Fine.{Lengths, lengths-fine, fine-lengths}
 use Rattle.press_spec.specs.Judge.{Sizes, checkRoom, checkPress, Judged, proper, bad, judge}
 use Rattle.press_spec.specs.Links.{links}
 use Rattle.press_spec.specs.Drops.{withDrops, markLines, total}
-use Rattle.press_spec.specs.Press.{pressed, Call, sizesOf, Report, Outcome, accepted, conclusion, core, report, emit, refuse, byJudging, byLengths, press}
+use Rattle.press_spec.specs.Press.{pressed, pressedOrder, Call, sizesOf, Report, Outcome, accepted, conclusion, core, report, emit, refuse, byJudging, byLengths, press}
 use Rattle.press_spec.proofs.Proper.{ProperNode, AllProper, Kept}
 use Rattle.press_spec.proofs.Judged.{AllRead, judged-proper, judge-of}
 use Rattle.press_spec.proofs.Kept.{pressed-kept}
@@ -166,7 +166,7 @@ module _ (plan : Plan) (c : Call) where
     unfolding press byLengths
     does = rw (fine, j)
 
-    answers : press plan c .answer ≡ accepted (report (ruleLines e rules) (pressed plan s))
+    answers : press plan c .answer ≡ accepted (report (ruleLines e rules) (pressedOrder plan s) (pressed plan s))
     unfolding byJudging emit
     answers = ap (λ (o : Outcome). o .answer) does
 
@@ -214,6 +214,7 @@ module _ (plan : Plan) (c : Call) where
     pub takes : r .steps ≡ stepsOf (pressed plan input)
     pub peaks : r .peak ≡ peakFrom 0 (withDrops (pressed plan input))
     pub totals : r .marked ≡ total (markLines (links (pressed plan input)) (replicate (ruleLines e rules) 0))
+    pub orders : r .order ≡ pressedOrder plan input
 
   pub accepted-says : (r : Report) → press plan c .answer ≡ accepted r → Says r
   unfolding report core
@@ -222,7 +223,7 @@ module _ (plan : Plan) (c : Call) where
       let (each, long, read) = judged-proper e rules sheet s j in
       let enough = rw (← long) at (press-fine e (sizesOf c) fine) in
       let said = sym (answers s fine j) ∙ a in
-      let same : r ≡ report (ruleLines e rules) (pressed plan s) = cc in
+      let same : r ≡ report (ruleLines e rules) (pressedOrder plan s) (pressed plan s) = cc in
       record {
         input = s;
         enough = enough;
@@ -241,6 +242,7 @@ module _ (plan : Plan) (c : Call) where
         takes = ap (λ (x : Report). x .steps) same;
         peaks = ap (λ (x : Report). x .peak) same;
         totals = ap (λ (x : Report). x .marked) same;
+        orders = ap (λ (x : Report). x .order) same;
       }
 
   -- ---- a proper sheet

@@ -1,7 +1,7 @@
 -- What is counted over an order is no more than what is counted over all numbers, since an order has each number once.
 use Prim.Native.Nat.{ℕ, zero, suc, _+_, _≤_, _<_}
 use mathlib.Core.Bool.{false, cond}
-use mathlib.Core.Path.{_≡_, refl, _∙_}
+use mathlib.Core.Path.{_≡_, refl, _∙_, sym}
 use mathlib.Core.Logic.{_≢_}
 use mathlib.Core.List.{List, [], _∷_}
 use native.Mathlib.Omega.{arith}
@@ -104,3 +104,17 @@ module _ (f : ℕ → ℕ) where
 -- an order of numbers below k has at most k of them
 pub order-fits : (s : List Link) (Q : ℕ → Type 0) (k : ℕ) → ((n : ℕ) → Q n → n < k) → (order : List ℕ) → InOrder s Q order → length order ≤ k
 order-fits s Q k small order o = omega (arith, order-le (λ n. 1) s Q k small order o, sumOver-ones order, sumBelow-ones k)
+
+-- two orders that have the same numbers are equally long
+pub same-length : (s : List Link) (Q : ℕ → Type 0) (k : ℕ) → ((n : ℕ) → Q n → n < k) → (one two : List ℕ) → InOrder s Q one → InOrder s Q two
+    → ((n : ℕ) → placed n one ≡ placed n two) → length one ≡ length two
+unfolding sumPlaced
+same-length s Q k small one two o p e =
+    sym (sumOver-ones one) ∙ sym (sum-order f s Q k small one o) ∙ same k ∙ sum-order f s Q k small two p ∙ sumOver-ones two
+  where
+    f : ℕ → ℕ
+    f n = 1
+
+    same : (k : ℕ) → sumPlaced f one k ≡ sumPlaced f two k
+    same zero = refl
+    same (suc k) = rw (e k, same k)

@@ -1,21 +1,23 @@
 -- What a pass leaves of a sheet, before it is laid out, and that laying it out in any order that ends with its conclusion keeps what every press keeps.
 use Prim.Native.Nat.{ℕ, _≤_, _<_}
-use mathlib.Core.Path.{_≡_}
 use mathlib.Core.List.{List}
 use native.Mathlib.Omega.{arith}
-use lib.ListN.{length}
+use lib.ListN.{length, length-map}
 use Rattle.clause.specs.Clauses.{Within}
 use Rattle.sheet.specs.declared.edition.Edition.{Edition}
 use Rattle.sheet.specs.Records.{Node, clause, nodeAt}
 use Rattle.sheet.specs.Counts.{stepsOf}
-use Rattle.press_spec.specs.Links.{join, link, links, linkAt, Parents}
-use Rattle.press_spec.specs.Trim.{Reaches, itself, left, right}
+use Rattle.press_spec.specs.Links.{link, links, Parents}
+use Rattle.press_spec.specs.Trim.{Reaches}
 use Rattle.press_spec.specs.Rebuild.{Ended}
-use Rattle.press_spec.specs.Order.{orderFrom, laid, InOrder}
+use Rattle.press_spec.specs.Order.{laid, InOrder}
+use Rattle.press_spec.specs.Better.{better}
 use Rattle.press_spec.specs.Press.{conclusion, arranged}
 use Rattle.press_spec.proofs.Proper.{ProperNode, Kept}
 use Rattle.press_spec.proofs.Nodes.{Earlier, link-at, links-falling}
-use Rattle.press_spec.proofs.Ordered.{Ordering, orderFrom-ends}
+use Rattle.press_spec.proofs.Ordered.{Ordering}
+use Rattle.press_spec.proofs.Finished.{reached-in}
+use Rattle.press_spec.proofs.Better.{better-ends}
 use Rattle.press_spec.proofs.Laid.{length-laid, laid-some, laid-proper, laid-used, laid-concludes}
 use Rattle.press_spec.proofs.Reached.{marked-reached}
 use Rattle.press_spec.proofs.Owed.{Concludes}
@@ -42,28 +44,30 @@ module _ (e : Edition) (rules : List ℕ) (s : List Node) (t : Ended) (In : ℕ 
     shorter = d .shorter order (o .each);
   }
 
-  -- the order of the scope document
-  pub ending-ordered : Ordering (links (t .nodes)) In (t .last) (orderFrom (links (t .nodes)) (t .last))
+  -- the better of the two orders
+  pub ending-ordered : Ordering (links (t .nodes)) In (t .last) (better (t .nodes) (t .last))
   ending-ordered =
-      orderFrom-ends (links (t .nodes)) (links-falling (t .nodes) (d .earlier)) In (λ n q. rw (link-at (t .nodes) n) (d .sound n q .1)) (t .last) (d .last)
+      better-ends
+      (t .nodes)
+      (links-falling (t .nodes) (d .earlier))
+      (t .last)
+      (rw (length-map (t .nodes) link) (d .small (t .last) (d .last)))
+      In
+      (λ n q. rw (link-at (t .nodes) n) (d .sound n q .1))
+      (d .last)
 
   pub ending-kept : Kept e rules s (arranged t)
   unfolding arranged
-  ending-kept = ending-laid (orderFrom (links (t .nodes)) (t .last)) ending-ordered
+  ending-kept = ending-laid (better (t .nodes) (t .last)) ending-ordered
 
   -- ---- for a further pass: what the conclusion reaches is proper
 
-  parents-in : (m p l r : ℕ) → linkAt (links (t .nodes)) m ≡ join p l r → In m → In l × In r
-  parents-in m p l r a q = rw a at (rw (← link-at (t .nodes) m) at (d .sound m q .1))
-
-  reached-in : (n : ℕ) → Reaches (links (t .nodes)) (t .last) n → In n
-  reached-in n itself = d .last
-  reached-in n (left {n = m} {p} {l} {r} h a) = parents-in m p l r a (reached-in m h) .0
-  reached-in n (right {n = m} {p} {l} {r} h a) = parents-in m p l r a (reached-in m h) .1
+  all-in : (n : ℕ) → Reaches (links (t .nodes)) (t .last) n → In n
+  all-in = reached-in (links (t .nodes)) In (λ n q. rw (link-at (t .nodes) n) (d .sound n q .1)) (t .last) (d .last)
 
   pub ending-concludes : Concludes e rules (t .nodes) (t .last)
   ending-concludes = record {
     earlier = d .earlier;
     inside = d .small (t .last) (d .last);
-    proper = λ n h. d .sound n (reached-in n (marked-reached (links (t .nodes)) (t .last) n h)) .0;
+    proper = λ n h. d .sound n (all-in n (marked-reached (links (t .nodes)) (t .last) n h)) .0;
   }

@@ -35,6 +35,7 @@ use Rattle.press_spec.proofs.Fair.{Fair, chosen-fair}
 use Rattle.press_spec.proofs.Recycled.{setsIn, set-is, is-kept, recycle-allowed, recycle-keeps, recycle-starts}
 use Rattle.press_spec.proofs.Counted.{order-fits}
 use Rattle.press_spec.proofs.Laid.{laid-shorter}
+use Rattle.press_spec.proofs.Owed.{Concludes}
 use Rattle.press_spec.proofs.Ending.{Ending, ending-kept, ending-concludes}
 use Rattle.press_spec.proofs.Returned.{Lowers, unit-never-concludes}
 use Rattle.press_spec.proofs.Shortened.{half-more}
@@ -151,6 +152,11 @@ module _ (e : Edition) (how : Recycling) (rules : List ℕ) (s : List Node) (pro
   low-kept Nothing = ending-kept e rules s four _ four-ending
   low-kept (Of which) = ending-kept e rules s _ _ (lowering-ending e rules s four _ four-ending (low which) (so which) (lowers which))
 
+  low-concludes : (w : Lowering) → Concludes e rules (lowerBy w (variables e) four .nodes) (lowerBy w (variables e) four .last)
+  unfolding lowerBy lowerOf
+  low-concludes Nothing = ending-concludes e rules s four _ four-ending
+  low-concludes (Of which) = ending-concludes e rules s _ _ (lowering-ending e rules s four _ four-ending (low which) (so which) (lowers which))
+
   low-shorter : (w : Lowering) → stepsOf (arranged (lowerBy w (variables e) four)) ≤ stepsOf (arranged four)
   unfolding lowerBy lowerOf
   low-shorter Nothing = omega arith
@@ -180,6 +186,11 @@ module _ (plan : Plan) (rules : List ℕ) (s : List Node) (proper : AllProper (p
   pub pressed-kept : Kept (plan .edition) rules s (pressed plan s)
   unfolding pressed pressedFrom concluded
   pressed-kept = low-kept (plan .edition) (plan .recycling) rules s proper full (plan .lowering)
+
+  -- what step 5 orders
+  pub pressed-concludes : let t = concluded plan (conclusion s) s in Concludes (plan .edition) rules (t .nodes) (t .last)
+  unfolding concluded
+  pressed-concludes = low-concludes (plan .edition) (plan .recycling) rules s proper full (plan .lowering)
 
   -- numbers stay below half as many again as there are records
   pub concluded-numbers : 2 * length (concluded plan (conclusion s) s .nodes) ≤ 3 * length s

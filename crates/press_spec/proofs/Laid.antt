@@ -13,14 +13,14 @@ use Rattle.clause.specs.Clauses.{none}
 use Rattle.sheet.specs.declared.edition.Edition.{Edition}
 use Rattle.sheet.specs.Records.{Node, given, step, clause, nodeAt}
 use Rattle.sheet.specs.Counts.{stepOf, stepsOf}
-use Rattle.press_spec.specs.Links.{Link, leaf, join, link, links, sink, Parents}
+use Rattle.press_spec.specs.Links.{link, links, sink, Parents}
 use Rattle.press_spec.specs.Trim.{usesIn, uses}
 use Rattle.press_spec.specs.Order.{placed, numberIn, renumber, laid, InOrder}
 use Rattle.press_spec.specs.Press.{conclusion}
 use Rattle.press_spec.proofs.Proper.{ProperNode, AllProper, AllUsed}
 use Rattle.press_spec.proofs.Nodes.{length-more, nodeAt-before, nodeAt-end, link-at, uses-more, steps-more, all-proper-more}
 use Rattle.press_spec.proofs.Trimmed.{uses-left, uses-right, used-parent}
-use Rattle.press_spec.proofs.Ordered.{placed-none, placed-cases, placed-here, placed-there, UsedLater, Ordering}
+use Rattle.press_spec.proofs.Ordered.{placed-none, placed-cases, placed-here, placed-there, UsedLater, Ordering, premises-placed}
 use Rattle.press_spec.proofs.Counted.{sumOver, sumBelow, sumBelow-le, steps-below, order-le, order-fits}
 
 -- ---- new numbers
@@ -169,19 +169,6 @@ module _ (s : List Node) (Q : ℕ → Type 0) where
 
   -- ---- each under its number
 
-  more-placed : (n : ℕ) (order : List ℕ) (x : Link) → Parents (λ k. placed k order ≡ true) x → Parents (λ k. placed k (n ∷ order) ≡ true) x
-  more-placed n order (leaf line) h = tt
-  more-placed n order (join p l r) h = (placed-there l n order (h .0), placed-there r n order (h .1))
-
-  -- the premises of one that is placed are placed
-  pub premises-placed : (order : List ℕ) → InOrder (links s) Q order → (m : ℕ) → placed m order ≡ true
-      → Parents (λ k. placed k order ≡ true) (link (nodeAt s m))
-  premises-placed [] o m h = absurd (placed-none m h)
-  premises-placed (n ∷ order) o m h = more-placed n order (link (nodeAt s m)) (elim (placed-cases m n order h) [
-    | inl e ↦ rw e (rw (link-at s n) at (o .2))
-    | inr k ↦ premises-placed order (o .3) m k
-  ])
-
   renumber-later : (n : ℕ) (order : List ℕ) → placed n order ≡ false → (x : Node) → Parents (λ k. placed k order ≡ true) (link x)
       → renumber (numberIn (n ∷ order)) x ≡ renumber (numberIn order) x
   unfolding renumber
@@ -189,7 +176,7 @@ module _ (s : List Node) (Q : ℕ → Type 0) where
   renumber-later n order f (step p l r c) h =
       rw (number-there l n order (not-new n order l f (h .0)), number-there r n order (not-new n order r f (h .1)))
 
-  laid-at : (order : List ℕ) → InOrder (links s) Q order → (m : ℕ) → placed m order ≡ true
+  pub laid-at : (order : List ℕ) → InOrder (links s) Q order → (m : ℕ) → placed m order ≡ true
       → nodeAt (laid s order) (numberIn order m) ≡ renumber (numberIn order) (nodeAt s m)
   laid-at [] o m h = absurd (placed-none m h)
   laid-at (n ∷ order) o m h = elim (ℕ-discrete m n) [
@@ -199,7 +186,7 @@ module _ (s : List Node) (Q : ℕ → Type 0) where
     | no q ↦
         let k = placed-other m n order q h in
         rw (number-there m n order q, laid-before s n order (numberIn order m) (number-below m order k), laid-at order (o .3) m k)
-        (sym (renumber-later n order (o .1) (nodeAt s m) (premises-placed order (o .3) m k)))
+        (sym (renumber-later n order (o .1) (nodeAt s m) (rw (link-at s m) at (premises-placed (links s) Q order (o .3) m k))))
   ]
 
   -- as many nodes as an order has, each under its number, are the nodes laid out

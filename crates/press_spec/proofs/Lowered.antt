@@ -11,7 +11,7 @@ use Rattle.sheet.specs.Counts.{stepOf, stepsOf}
 use Rattle.press_spec.specs.Links.{links}
 use Rattle.press_spec.specs.Trim.{trim}
 use Rattle.press_spec.specs.Rebuild.{Built, Ended}
-use Rattle.press_spec.specs.Order.{orderFrom, laid}
+use Rattle.press_spec.specs.Better.{better}
 use Rattle.press_spec.specs.Lower.{Lowered, comeBackAll}
 use Rattle.press_spec.specs.Press.{arranged}
 use Rattle.press_spec.proofs.Literals.{in-none}
@@ -36,7 +36,7 @@ module _ (e : Edition) (rules : List ℕ) (s : List Node) (t : Ended) (Q : ℕ �
   back = returned e rules (t .nodes) (t .last) good low b lo
 
   abbrev order : List ℕ
-  order = orderFrom (links (t .nodes)) (t .last)
+  order = better (t .nodes) (t .last)
 
   -- what is laid out without lowering is all that the trim keeps
   covered : (v : ℕ → ℕ) → sumBelow (ifMarked (trim (links (t .nodes)) (t .last)) v) (length (t .nodes)) ≤ sumOver v order
@@ -69,7 +69,7 @@ module _ (e : Edition) (rules : List ℕ) (s : List Node) (t : Ended) (Q : ℕ �
   unfolding arranged
   lowering-shortens = omega (
     arith,
-    fewer-steps e rules (t .nodes) (t .last) good low b lo (orderFrom (links (t′ .nodes)) (t′ .last)) (ending-ordered e rules s t′ _ lowering-ending .each),
+    fewer-steps e rules (t .nodes) (t .last) good low b lo (better (t′ .nodes) (t′ .last)) (ending-ordered e rules s t′ _ lowering-ending .each),
     covered (λ n. stepOf (nodeAt (t .nodes) n)),
     steps-laid (t .nodes) order,
   )

@@ -35,6 +35,19 @@ pub placed-there : (m n : ℕ) (order : List ℕ) → placed m order ≡ true �
 unfolding placed
 placed-there m n order h = ap (λ (t : Bool). eqb m n || t) h ∙ or-true (eqb m n)
 
+more-placed : (n : ℕ) (order : List ℕ) (x : Link) → Parents (λ k. placed k order ≡ true) x → Parents (λ k. placed k (n ∷ order) ≡ true) x
+more-placed n order (leaf line) h = tt
+more-placed n order (join p l r) h = (placed-there l n order (h .0), placed-there r n order (h .1))
+
+-- the premises of one that is placed are placed
+pub premises-placed : (s : List Link) (Q : ℕ → Type 0) (order : List ℕ) → InOrder s Q order → (m : ℕ) → placed m order ≡ true
+    → Parents (λ k. placed k order ≡ true) (linkAt s m)
+premises-placed s Q [] o m h = absurd (placed-none m h)
+premises-placed s Q (n ∷ order) o m h = more-placed n order (linkAt s m) (elim (placed-cases m n order h) [
+  | inl e ↦ rw e (o .2)
+  | inr k ↦ premises-placed s Q order (o .3) m k
+])
+
 not-placed : (n : ℕ) (order : List ℕ) → (placed n order ≡ true → ⊥) → placed n order ≡ false
 not-placed n order h = by (placed n order) refl
   where

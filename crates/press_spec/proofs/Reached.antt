@@ -23,7 +23,7 @@ module _ (s : List Link) (earlier : Falling s) (from : ℕ) (inside : from < len
       → Marked (trim s from) l × Marked (trim s from) r
   parents n p l r e h = rw e at (trim-closed s earlier from inside n h)
 
-  reached-marked : (n : ℕ) → Reaches s from n → Marked (trim s from) n
+  pub reached-marked : (n : ℕ) → Reaches s from n → Marked (trim s from) n
   reached-marked n itself = trim-keeps s earlier from inside
   reached-marked n (left {n = m} {p} {l} {r} h e) = parents m p l r e (reached-marked m h) .0
   reached-marked n (right {n = m} {p} {l} {r} h e) = parents m p l r e (reached-marked m h) .1

@@ -8,6 +8,7 @@ use Rattle.sheet.specs.declared.Reason.{Reason}
 use Rattle.sheet.specs.declared.Verdict.{Verdict}
 use Rattle.sheet.specs.declared.Verdict.the-variants.{Fine, Refused}
 use Rattle.sheet.specs.declared.edition.Edition.{Edition}
+use Rattle.press_spec.specs.declared.Order.{Order}
 use Rattle.press_spec.specs.declared.Plan.{Plan}
 use Rattle.sheet.specs.Editions.{variables}
 use Rattle.sheet.specs.Reasons.{numberOf}
@@ -20,7 +21,8 @@ use Rattle.press_spec.specs.Trim.{usesFrom}
 use Rattle.press_spec.specs.Recycle.{Fit, Reach, fitOf, recycle, fates}
 use Rattle.press_spec.specs.Rebuild.{Built, rebuild, Ended, endedAt}
 use Rattle.press_spec.specs.Lowerings.{lowerBy}
-use Rattle.press_spec.specs.Order.{orderFrom, laid}
+use Rattle.press_spec.specs.Order.{laid}
+use Rattle.press_spec.specs.Better.{betterOf, better}
 use Rattle.press_spec.specs.Drops.{withDrops, markLines, total}
 
 -- 2: with a way to fit sets, and the sink's own set
@@ -35,9 +37,13 @@ recycled fit S s = rebuild s (fates (links s) (reaches fit S s))
 unfoldable pub shortened : Fit → Literals → List Node → Ended
 shortened fit S s = endedAt (recycled fit S s) (sink s)
 
--- 4 and 5: from the conclusion
+-- 4 and 5: from the conclusion, in the better of the two orders
 unfoldable pub arranged : Ended → List Node
-arranged t = laid (t .nodes) (orderFrom (links (t .nodes)) (t .last))
+arranged t = laid (t .nodes) (better (t .nodes) (t .last))
+
+-- which of the two that is
+unfoldable pub orderOf : Ended → Order
+orderOf t = betterOf (t .nodes) (t .last)
 
 -- the way to fit sets that the plan chooses
 abbrev pub chosenFit : Plan → List Node → Fit
@@ -58,6 +64,9 @@ conclusion s = clause (nodeAt s (sink s))
 unfoldable pub pressed : Plan → List Node → List Node
 pressed plan s = pressedFrom plan (conclusion s) s
 
+unfoldable pub pressedOrder : Plan → List Node → Order
+pressedOrder plan s = orderOf (concluded plan (conclusion s) s)
+
 -- what a press is lent
 pub record Call : Type 0 where
   pub sheet : List ℕ
@@ -72,7 +81,7 @@ abbrev pub sizesOf : Call → Sizes
 sizesOf c = sizes (length (c .sheet)) (length (c .rules)) (length (c .out)) (length (c .marks))
 
 -- "An accepted press returns conclusion, record count, node count, step count (resolution records), peak and number of marked
--- lines."
+-- lines." And "the answer says which" of the two orders "it was".
 pub record Report : Type 0 where
   pub conclusion : Literals
   pub records : ℕ
@@ -80,6 +89,7 @@ pub record Report : Type 0 where
   pub steps : ℕ
   pub peak : ℕ
   pub marked : ℕ
+  pub order : Order
 
 pub data Answer : Type 0 where
   refused : ℕ → ℕ → Answer
@@ -97,28 +107,29 @@ outcome a out marks = record { answer = a; out = out; marks = marks }
 unfoldable pub core : ℕ → List Node → List ℕ
 core lines s = markLines (links s) (replicate lines 0)
 
-unfoldable pub report : ℕ → List Node → Report
-report lines s = record {
+unfoldable pub report : ℕ → Order → List Node → Report
+report lines which s = record {
   conclusion = conclusion s;
   records = length (withDrops s);
   nodes = length s;
   steps = stepsOf s;
   peak = peakFrom 0 (withDrops s);
   marked = total (core lines s);
+  order = which;
 }
 
 -- "Output beyond the records is untouched. Marks hold 1 or 0 for each rule line; bytes beyond are untouched."
-unfoldable pub emit : Edition → Call → List Node → Outcome
-emit e c s =
+unfoldable pub emit : Edition → Call → Order → List Node → Outcome
+emit e c which s =
     let lines = ruleLines e (c .rules) in
-    outcome (accepted (report lines s)) (put (c .out) 0 (sheetBytes e (withDrops s))) (put (c .marks) 0 (core lines s))
+    outcome (accepted (report lines which s)) (put (c .out) 0 (sheetBytes e (withDrops s))) (put (c .marks) 0 (core lines s))
 
 -- "A refused press changes neither output nor marks."
 unfoldable pub refuse : Call → Reason → ℕ → Outcome
 refuse c why k = outcome (refused (numberOf why) k) (c .out) (c .marks)
 
 unfoldable pub byJudging : Plan → Call → Judged → Outcome
-byJudging plan c (proper s) = emit (plan .edition) c (pressed plan s)
+byJudging plan c (proper s) = emit (plan .edition) c (pressedOrder plan s) (pressed plan s)
 byJudging plan c (bad why k) = refuse c why k
 
 unfoldable pub byLengths : Plan → Call → Verdict → Outcome
