@@ -1,182 +1,211 @@
--- Laying out an order: what was found, one turn, and every turn.
-use Prim.Native.Nat.{ℕ, zero, suc, _+_, _-_, _≤_, _<_}
-use mathlib.Core.Path.{_≡_, refl, sym, ap, _∙_}
-use mathlib.Core.Bool.{Bool, true, false, true≢false}
-use mathlib.Core.Logic.{inl, inr}
-use mathlib.Core.List.{List, [], _∷_}
+-- Laying out an order: a link at its place, one turn, and every turn. Of laid links the laws of laid nodes are cited, with no clauses.
+use Prim.Native.Nat.{ℕ, suc, _+_, _≤_, _<_}
+use mathlib.Core.Path.{_≡_, refl, sym, ap, ap₂, _∙_}
+use mathlib.Core.Bool.{true}
+use mathlib.Core.Logic.{_≢_}
+use mathlib.Core.List.{List, [], _∷_, _++_, map-append}
 use native.Mathlib.Omega.{arith}
-use native.Mathlib.Numerals.{add-one}
 use native.Mathlib.Decide.{ℕ-discrete, decLt}
-use lib.ListN.{length, getD, set, length-set, List·getD-eq-default}
+use lib.ListN.{length, getD, set, length-map, List·getD-eq-default}
 use lib.Seq.{getD-set-same, getD-set-other}
-use borrow.Author.Tests.{eq-eqb, ne-eqb}
-use Rattle.base.specs.Folds.{rise}
-use Rattle.clause.specs.Clauses.{none}
-use Rattle.clause.specs.Denote.{literalsOf}
-use Rattle.clause.specs.declared.Clause.{Clause}
-use Rattle.sheet.specs.declared.Record.{Record}
-use Rattle.sheet.specs.declared.Record.the-variants.{Given, Step, Drop}
-use Rattle.sheet.specs.declared.NodeNo.{NodeNo}
-use Rattle.sheet.specs.declared.LineNo.{LineNo}
-use Rattle.sheet.specs.Records.{Node, given, step, node, nodeAt}
-use Rattle.sheet.specs.Denote.{recordOf}
-use Rattle.press_nodes.specs.Tables.{nodesIn}
-use Rattle.press_spec.specs.Links.{link, links, Parents}
+use Rattle.clause.specs.Clauses.{Literals}
+use Rattle.sheet.specs.Records.{Node, given, step, nodeAt}
+use Rattle.press_nodes.specs.Tables.{linksIn, clauseWords, setsIn, clausesIn, changed, nodeOf, nodesIn, Links, Nodes}
+use Rattle.press_spec.specs.Links.{Link, leaf, join, link, links, linkAt, Parents}
 use Rattle.press_spec.specs.Order.{placed, numberIn, renumber, laid, InOrder}
 use Rattle.press_order.specs.Placing.{Numbered, Orderly}
-use Rattle.press_lay.specs.Laying.{placeIn, layTurn}
-use Rattle.press_nodes.proofs.Tables.{links-nodes}
+use Rattle.press_lay.specs.Laying.{relink, laidLinks, HasPlace, placeIn}
+use Rattle.press_nodes.proofs.Tables.{links-length, changed-there, changed-elsewhere, links-nodes, nodes-length, nodes-at}
 use Rattle.press_order.proofs.Placing.{by-place, has-place}
-use Rattle.press_spec.proofs.Ordered.{placed-none, placed-cases}
-use Rattle.press_spec.proofs.Laid.{number-below, number-once, premises-placed, laid-whole}
+use Rattle.press_lay.proofs.Arranged.{laid-sound}
+use Rattle.press_spec.proofs.Nodes.{link-at}
+use Rattle.press_spec.proofs.Ordered.{premises-placed}
+use Rattle.press_spec.proofs.Laid.{number-below, number-once, laid-at, laid-whole, laid-fits}
 
--- ---- what was found, laid
+-- ---- a link at its place
 
 pub inside : (t : List ℕ) (i : ℕ) → 1 ≤ getD t i 0 → i < length t
 inside t i h = elim (decLt i (length t)) [ yes k ↦ k | no k ↦ absurd (omega (arith, List·getD-eq-default {A = ℕ} t 0 {n = i} (omega arith))) ]
 
--- a node that has a place in the order
-abbrev HasPlace : List ℕ → ℕ → Type 0
-HasPlace numbers n = 1 ≤ getD numbers n 0
+module _ (number : ℕ → ℕ) where
+  pub relinks-leaf : (x : Link) {line : ℕ} → x ≡ leaf line → leaf line ≡ relink number x
+  unfolding relink
+  relinks-leaf x e = rw e
 
-module _ (x : Record) (numbers : List ℕ) where
-  pub known-step : {p : ℕ} {l r : NodeNo} {c : Clause} → x ≡ Step p l r c → ((m : Node) → recordOf x ≡ node m → Parents (HasPlace numbers) (link m))
-      → (1 ≤ getD numbers (l .0) 0) × (1 ≤ getD numbers (r .0) 0)
-  unfolding recordOf
-  known-step q f = f _ (ap recordOf q)
+  pub relinks-join : (x : Link) {p l r i j : ℕ} → x ≡ join p l r → i ≡ number l → j ≡ number r → join p i j ≡ relink number x
+  unfolding relink
+  relinks-join x e u v = rw (e, u, v)
 
-  pub lays-given : (m : Node) {line : LineNo} {c : Clause} → recordOf x ≡ node m → x ≡ Given line c → given (line .0) (literalsOf c) ≡ renumber (placeIn numbers) m
-  unfolding recordOf renumber
-  lays-given m {line} {c} e q =
-      let f : recordOf (Given line c) ≡ node m = rw q at e in
-      let g : m ≡ given (line .0) (literalsOf c) = cc in
-      rw g
+  link-renumber : (m : Node) → link (renumber number m) ≡ relink number (link m)
+  unfolding renumber relink
+  link-renumber (given line c) = refl
+  link-renumber (step p l r c) = refl
 
-  pub lays-step : (m : Node) {p : ℕ} {l r : NodeNo} {c : Clause} (i j : ℕ) → recordOf x ≡ node m → x ≡ Step p l r c
-      → i ≡ placeIn numbers (l .0) → j ≡ placeIn numbers (r .0) → step p i j (literalsOf c) ≡ renumber (placeIn numbers) m
-  unfolding recordOf renumber
-  lays-step m {p} {l} {r} {c} i j e q u v =
-      let f : recordOf (Step p l r c) ≡ node m = rw q at e in
-      let g : m ≡ step p (l .0) (r .0) (literalsOf c) = cc in
-      rw (g, u, v)
+  node-relink : (x : Link) (c : Literals) → nodeOf (relink number x) c ≡ renumber number (nodeOf x c)
+  unfolding renumber relink nodeOf
+  node-relink (leaf line) c = refl
+  node-relink (join p l r) c = refl
 
-pub lays-nothing : (x : Record) {n : NodeNo} (m : Node) → recordOf x ≡ node m → x ≡ Drop n → ⊥
-unfolding recordOf
-lays-nothing x {n} m e q = let f : recordOf (Drop n) ≡ node m = rw q at e in let z : _≡_ {A = ℕ} 0 1 = cc in omega arith
+pub links-laid : (s : List Node) (order : List ℕ) → links (laid s order) ≡ laidLinks (links s) order
+unfolding laid laidLinks
+links-laid s [] = refl
+links-laid s (n ∷ order) =
+    map-append link (laid s order) (renumber (numberIn order) (nodeAt s n) ∷ [])
+    ∙ ap₂ (λ (t : List Link) (x : Link). t ++ (x ∷ [])) (links-laid s order)
+    (link-renumber (numberIn order) (nodeAt s n) ∙ ap (relink (numberIn order)) (sym (link-at s n)))
 
 -- ---- one turn
 
-module _ (numbers : List ℕ) (s old : List Node) {n i : ℕ} (same : i ≡ n) where
-  pub turn-none : getD numbers i 0 ≡ 0 → old ≡ layTurn numbers s n old
-  unfolding layTurn
-  turn-none q = rw (eq-eqb (getD numbers n 0) 0 (rw same at q))
+-- of the nodes below n, the entry of each that has a place stands there
+abbrev pub LaidBelow : {A : Type 0} → List ℕ → (ℕ → A) → ℕ → (ℕ → A) → Type 0
+LaidBelow numbers entry n there = (m : ℕ) → m < n → HasPlace numbers m → there (placeIn numbers m) ≡ entry m
 
-  pub turn-some : {k : ℕ} → (getD numbers i 0 ≡ 0 → ⊥) → k ≡ placeIn numbers n
-      → set old k (renumber (placeIn numbers) (nodeAt s n)) ≡ layTurn numbers s n old
-  unfolding layTurn
-  turn-some q e = rw (ne-eqb (getD numbers n 0) 0 (rw same at q), e)
+pub turn-none : {A : Type 0} (numbers : List ℕ) (entry there : ℕ → A) (n : ℕ) → LaidBelow numbers entry n there → getD numbers n 0 ≤ 0
+    → LaidBelow numbers entry (n + 1) there
+turn-none numbers entry there n f z m i p = elim (ℕ-discrete m n) [
+  | yes e ↦ absurd (let q : HasPlace numbers n = rw e at p in omega arith)
+  | no e ↦ f m (omega arith) p
+]
 
-pub turn-next : (numbers : List ℕ) (s old now new : List Node) (n : ℕ) → now ≡ rise (layTurn numbers s) n old → new ≡ layTurn numbers s n now
-    → new ≡ rise (layTurn numbers s) (n + 1) old
-unfolding rise
-turn-next numbers s old now new n e q = q ∙ ap (layTurn numbers s n) e ∙ rw (add-one n)
+-- the entry of a node among links: its parents go by their places
+abbrev pub relinked : List ℕ → List ℕ → ℕ → Link
+relinked numbers h m = relink (placeIn numbers) (linkAt (linksIn h) m)
 
-module _ (h c numbers order : List ℕ) (orderly : Orderly h order) (numbered : Numbered numbers order) where
-  abbrev s : List Node
-  s = nodesIn h c
-
-  abbrev Below : ℕ → Type 0
-  Below n = n < length h
-
-  orderly-nodes : InOrder (links (nodesIn h c)) Below order
-  orderly-nodes = rw (links-nodes h c) orderly
-
+module _ (numbers order : List ℕ) (numbered : Numbered numbers order) where
   has-number : (m : ℕ) → placed m order ≡ true → getD numbers m 0 ≡ suc (numberIn order m)
   has-number m q = by-place numbers order m numbered true q
 
-  known : (m : Node) → Parents (λ k. placed k order ≡ true) (link m) → Parents (HasPlace numbers) (link m)
-  known (given line d) h = tt
-  known (step p l r d) h = (omega (arith, has-number l (h .0)), omega (arith, has-number r (h .1)))
+  is-placed : (m : ℕ) → HasPlace numbers m → placed m order ≡ true
+  is-placed m p = has-place numbers order m numbered m refl (λ z. omega arith)
 
-  same-numbers : (m : Node) → Parents (λ k. placed k order ≡ true) (link m) → renumber (placeIn numbers) m ≡ renumber (numberIn order) m
-  unfolding renumber
-  same-numbers (given line d) h = refl
-  same-numbers (step p l r d) h =
-      let u : getD numbers l 0 - 1 ≡ numberIn order l = omega (arith, has-number l (h .0)) in
-      let v : getD numbers r 0 - 1 ≡ numberIn order r = omega (arith, has-number r (h .1)) in
-      rw (u, v)
+  pub fits : (n : ℕ) → getD numbers n 0 ≤ length order
+  fits n = elim (decLt 0 (getD numbers n 0)) [
+    | yes p ↦ let q = is-placed n p in omega (arith, has-number n q, number-below n order q)
+    | no p ↦ omega arith
+  ]
 
-  module _ {n i : ℕ} (same : i ≡ n) (some : getD numbers i 0 ≡ 0 → ⊥) where
-    pub number-inside : {k : ℕ} → k ≡ placeIn numbers n → k < length order
-    number-inside e =
-        let q = has-place numbers order n numbered i same some in
-        omega (arith, has-number n q, number-below n order q)
+  -- no two nodes have one place
+  once : (m n : ℕ) → HasPlace numbers m → HasPlace numbers n → placeIn numbers m ≡ placeIn numbers n → m ≡ n
+  once m n p q e =
+      let a = is-placed m p in
+      let b = is-placed n q in
+      number-once order m n a b (omega (arith, has-number m a, has-number n b))
 
-    pub parents-known : (x : Record) → recordOf x ≡ node (nodeAt s n) → (m : Node) → recordOf x ≡ node m → Parents (HasPlace numbers) (link m)
-    parents-known x found m e =
-        let q : m ≡ nodeAt s n = cc in
-        rw q (known (nodeAt s n) (premises-placed s Below order orderly-nodes n (has-place numbers order n numbered i same some)))
+  turn-some : {A : Type 0} (entry there new : ℕ → A) (n : ℕ) → LaidBelow numbers entry n there → HasPlace numbers n
+      → new (placeIn numbers n) ≡ entry n → ((k : ℕ) → k ≢ placeIn numbers n → new k ≡ there k) → LaidBelow numbers entry (n + 1) new
+  turn-some entry there new n f q here other m i p = elim (ℕ-discrete m n) [
+    | yes e ↦ rw e here
+    | no e ↦ other (placeIn numbers m) (λ z. e (once m n p q z)) ∙ f m (omega arith) p
+  ]
 
-  -- ---- every turn
+  module _ (n : ℕ) (has : HasPlace numbers n) (t old new : List ℕ) where
+    pub link-turn : LaidBelow numbers (relinked numbers t) n (linkAt (linksIn old)) → getD numbers n 0 ≤ length old
+        → linksIn new ≡ set (linksIn old) (placeIn numbers n) (relinked numbers t n) → LaidBelow numbers (relinked numbers t) (n + 1) (linkAt (linksIn new))
+    unfolding linkAt
+    link-turn f room e =
+        turn-some (relinked numbers t) (linkAt (linksIn old)) (linkAt (linksIn new)) n f has
+        (rw e (getD-set-same (linksIn old) (placeIn numbers n) (relinked numbers t n) (leaf 0) (omega (arith, links-length old))))
+        (λ k z. rw e (getD-set-other (linksIn old) (placeIn numbers n) k (relinked numbers t n) (leaf 0) z))
 
-  turn-placed : (n : ℕ) (t : List Node) → placed n order ≡ true
-      → layTurn numbers s n t ≡ set t (numberIn order n) (renumber (numberIn order) (nodeAt s n))
-  unfolding layTurn
-  turn-placed n t q =
-      let f = has-number n q in
-      let k : getD numbers n 0 - 1 ≡ numberIn order n = omega (arith, f) in
-      rw (ne-eqb (getD numbers n 0) 0 (λ z. omega (arith, f)), k)
-      (ap (set t (numberIn order n)) (same-numbers (nodeAt s n) (premises-placed s Below order orderly-nodes n q)))
+    pub clause-turn : LaidBelow numbers (clausesIn t) n (clausesIn old) → (x : Literals) → x ≡ clausesIn t n
+        → clausesIn new ≡ changed (placeIn numbers n) x (clausesIn old) → LaidBelow numbers (clausesIn t) (n + 1) (clausesIn new)
+    clause-turn f x q e =
+        turn-some (clausesIn t) (clausesIn old) (clausesIn new) n f has
+        (ap (λ (g : ℕ → Literals). g (placeIn numbers n)) e ∙ changed-there (placeIn numbers n) (placeIn numbers n) x (clausesIn old) refl ∙ q)
+        (λ k z. ap (λ (g : ℕ → Literals). g k) e ∙ changed-elsewhere (placeIn numbers n) k x (clausesIn old) z)
 
-  turn-other : (n : ℕ) (t : List Node) → placed n order ≡ false → layTurn numbers s n t ≡ t
-  unfolding layTurn
-  turn-other n t q = rw (eq-eqb (getD numbers n 0) 0 (by-place numbers order n numbered false q))
+-- ---- every turn
 
-  module _ (t : List Node) (room : length t ≡ length order) where
-    abbrev after : ℕ → List Node
-    after n = rise (layTurn numbers s) n t
+module _ (h order : List ℕ) (orderly : Orderly h order) where
+  abbrev Below : ℕ → Type 0
+  Below n = n < length h
 
-    -- the nodes below n that have a place stand there
-    abbrev LaidBelow : ℕ → List Node → Type 0
-    LaidBelow n u = (length u ≡ length order)
-        × ((m : ℕ) → m < n → placed m order ≡ true → nodeAt u (numberIn order m) ≡ renumber (numberIn order) (nodeAt s m))
+  of-nodes : (c : List ℕ) → InOrder (links (nodesIn h c)) Below order
+  of-nodes c = rw (links-nodes h c) orderly
 
-    laid-turn : (n : ℕ) (u : List Node) → LaidBelow n u → LaidBelow (suc n) (layTurn numbers s n u)
-    unfolding nodeAt
-    laid-turn n u (long, f) = by (placed n order) refl
-      where
-        x : Node
-        x = renumber (numberIn order) (nodeAt s n)
+  of-links : links (laid (nodesIn h []) order) ≡ laidLinks (linksIn h) order
+  of-links = links-laid (nodesIn h []) order ∙ ap (λ (t : List Link). laidLinks t order) (links-nodes h [])
 
-        by : (b : Bool) → placed n order ≡ b → LaidBelow (suc n) (layTurn numbers s n u)
-        by true q = rw (turn-placed n u q) (
-          simp length-set long,
-          λ m i p. elim (ℕ-discrete m n) [
-            | yes e ↦ rw e (getD-set-same u (numberIn order n) x (given 0 none) (omega (arith, number-below n order q)))
-            | no e ↦ getD-set-other u (numberIn order n) (numberIn order m) x (given 0 none) (λ z. e (number-once order m n p q z)) ∙ f m (omega arith) p
-          ],
-        )
-        by false q = rw (turn-other n u q) (
-          long,
-          λ m i p. elim (ℕ-discrete m n) [
-            | yes e ↦ absurd (true≢false (sym p ∙ rw e q))
-            | no e ↦ f m (omega arith) p
-          ],
-        )
+  same-link : (n : ℕ) → link (nodeAt (nodesIn h []) n) ≡ linkAt (linksIn h) n
+  same-link n = sym (link-at (nodesIn h []) n) ∙ ap (λ (t : List Link). linkAt t n) (links-nodes h [])
 
-    laid-below : (n : ℕ) → LaidBelow n (after n)
-    unfolding rise
-    laid-below zero = (room, λ m i p. absurd (omega arith))
-    laid-below (suc n) = laid-turn n (after n) (laid-below n)
+  parents-placed : (n : ℕ) → placed n order ≡ true → Parents (λ k. placed k order ≡ true) (linkAt (linksIn h) n)
+  parents-placed n p = premises-placed (linksIn h) Below order orderly n p
+
+  -- links that are laid out are sound again
+  pub laid-links-sound : Links h → (h₂ : List ℕ) → linksIn h₂ ≡ laidLinks (linksIn h) order → Links h₂
+  laid-links-sound tables h₂ e =
+      let s = nodesIn h [] in
+      let same : linksIn h₂ ≡ links (laid s order) = e ∙ sym of-links in
+      let long : length h₂ ≡ length (laid s order) = sym (links-length h₂) ∙ ap length same ∙ length-map (laid s order) link in
+      record {
+        few = omega (arith, laid-fits s Below (length h) (λ n i. i) order (of-nodes []), tables .few);
+        sound = λ n i.
+            rw (same, link-at (laid s order) n)
+            (laid-sound s Below (λ m j. rw (same-link m) (tables .sound m j)) order (of-nodes []) n (omega arith));
+      }
+
+  -- and so are the tables of nodes
+  pub laid-nodes-sound : {c : List ℕ} → Nodes h c → (h₂ c₂ : List ℕ) → nodesIn h₂ c₂ ≡ laid (nodesIn h c) order → length c₂ ≡ clauseWords (length h₂) → Nodes h₂ c₂
+  laid-nodes-sound {c} tables h₂ c₂ e size = record {
+    linked =
+        laid-links-sound (tables .linked) h₂
+        (sym (links-nodes h₂ c₂) ∙ ap links e ∙ links-laid (nodesIn h c) order ∙ ap (λ (t : List Link). laidLinks t order) (links-nodes h c));
+    size = size;
+  }
+
+  module _ (numbers : List ℕ) (numbered : Numbered numbers order) (wide : length numbers ≡ length h) where
+    is-known : (m : ℕ) → placed m order ≡ true → HasPlace numbers m
+    is-known m p = omega (arith, has-number numbers order numbered m p)
+
+    same-number : (m : ℕ) → placed m order ≡ true → placeIn numbers m ≡ numberIn order m
+    same-number m p = omega (arith, has-number numbers order numbered m p)
 
     placed-inside : (m : ℕ) → placed m order ≡ true → m < length h
-    placed-inside m p = in-order-inside order orderly m p
-      where
-        in-order-inside : (o : List ℕ) → Orderly h o → (m : ℕ) → placed m o ≡ true → m < length h
-        in-order-inside [] d m q = absurd (placed-none m q)
-        in-order-inside (n ∷ o) d m q = elim (placed-cases m n o q) [ inl e ↦ rw e (d .0) | inr k ↦ in-order-inside o (d .3) m k ]
+    placed-inside m p = omega (arith, inside numbers m (is-known m p))
 
-    pub all-laid : after (length h) ≡ laid s order
-    all-laid =
-        let y = laid-below (length h) in
-        laid-whole s Below order orderly-nodes (after (length h)) (y .0) (λ m p. y .1 m (placed-inside m p) p)
+    known : (x : Link) → Parents (λ k. placed k order ≡ true) x → Parents (HasPlace numbers) x
+    known (leaf line) d = tt
+    known (join p l r) d = (is-known l (d .0), is-known r (d .1))
+
+    same-numbers : (x : Link) → Parents (λ k. placed k order ≡ true) x → relink (placeIn numbers) x ≡ relink (numberIn order) x
+    unfolding relink
+    same-numbers (leaf line) d = refl
+    same-numbers (join p l r) d = ap₂ (join p) (same-number l (d .0)) (same-number r (d .1))
+
+    pub parents-known : (n : ℕ) → HasPlace numbers n → Parents (HasPlace numbers) (linkAt (linksIn h) n)
+    parents-known n p = known (linkAt (linksIn h) n) (parents-placed n (is-placed numbers order numbered n p))
+
+    module _ (h₂ : List ℕ) (room : length h₂ ≡ length order) where
+      -- each link stands at its place
+      abbrev AtPlaces : Type 0
+      AtPlaces = (m : ℕ) → placed m order ≡ true → linkAt (linksIn h₂) (numberIn order m) ≡ relink (numberIn order) (linkAt (linksIn h) m)
+
+      nodes-laid : AtPlaces → (c c₂ : List ℕ) → ((m : ℕ) → placed m order ≡ true → clausesIn c₂ (numberIn order m) ≡ clausesIn c m)
+          → nodesIn h₂ c₂ ≡ laid (nodesIn h c) order
+      nodes-laid f c c₂ g =
+          laid-whole (nodesIn h c) Below order (of-nodes c) (nodesIn h₂ c₂) (nodes-length h₂ c₂ ∙ room) (λ m p.
+          nodes-at h₂ c₂ (numberIn order m) (omega (arith, number-below m order p))
+          ∙ ap₂ nodeOf (f m p) (g m p)
+          ∙ node-relink (numberIn order) (linkAt (linksIn h) m) (clausesIn c m)
+          ∙ ap (renumber (numberIn order)) (sym (nodes-at h c m (placed-inside m p))))
+
+      pub all-linked : LaidBelow numbers (relinked numbers h) (length h) (linkAt (linksIn h₂)) → linksIn h₂ ≡ laidLinks (linksIn h) order
+      all-linked f = sym (links-nodes h₂ []) ∙ ap links (nodes-laid at-places [] [] (λ m p. unfold clausesIn setsIn in refl)) ∙ of-links
+        where
+          at-places : AtPlaces
+          at-places m p =
+              rw (same-number m p) at (f m (placed-inside m p) (is-known m p)) ∙ same-numbers (linkAt (linksIn h) m) (parents-placed m p)
+
+      -- laid links, and each clause at its node's place, are the nodes laid out
+      pub all-laid : linksIn h₂ ≡ laidLinks (linksIn h) order → (c c₂ : List ℕ)
+          → ((n : ℕ) → HasPlace numbers n → clausesIn c₂ (placeIn numbers n) ≡ clausesIn c n) → nodesIn h₂ c₂ ≡ laid (nodesIn h c) order
+      all-laid e c c₂ g = nodes-laid at-places c c₂ (λ m p. rw (same-number m p) at (g m (is-known m p)))
+        where
+          at-places : AtPlaces
+          at-places m p =
+              ap (λ (t : List Link). linkAt t (numberIn order m)) (e ∙ sym of-links)
+              ∙ link-at (laid (nodesIn h []) order) (numberIn order m)
+              ∙ ap link (laid-at (nodesIn h []) Below order (of-nodes []) m p)
+              ∙ link-renumber (numberIn order) (nodeAt (nodesIn h []) m)
+              ∙ ap (relink (numberIn order)) (same-link m)

@@ -43,7 +43,7 @@ fn in_turn(counts: &[u16], left: NodeNo, right: NodeNo) -> Premises
 }
 
 // Node n comes next in the order, which has `count` nodes so far: how many it has then.
-fn put_next(n: NodeNo, numbers: &mut [u16], count: u16) -> u16
+pub fn put_next(n: NodeNo, numbers: &mut [u16], count: u16) -> u16
     requires { ⌜ (n .0 < length (now numbers)) × (count < capacity) ⌝ }
     ensures { λ r. ⌜ ((order : List ℕ) → Stands (now (numbers .entry)) count order → Stands (now (numbers .exit)) r (n .0 ∷ order)) ⌝ }
 {

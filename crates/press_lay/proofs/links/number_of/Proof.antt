@@ -1,9 +1,11 @@
 use Prim.Native.Nat.{ℕ, _-_}
 use mathlib.Core.Path.{ap}
+use native.Mathlib.Omega.{arith}
 use lib.ListN.{getD}
+use Rattle.press_lay.specs.Laying.{HasPlace}
 use borrow.Author.Needs.{needs}
-use Rattle.press_lay.proofs.number_of.Statement.{statement}
-use Rattle.press_lay.proofs.number_of.Tie as tie
+use Rattle.press_lay.proofs.links.number_of.Statement.{statement}
+use Rattle.press_lay.proofs.links.number_of.Tie as tie
 
 index-requires : tie.Need-index-requires
 index-requires c κs = search needs
@@ -15,7 +17,8 @@ shared-slice-read-t6 : tie.Need-shared-slice-read-t6
 shared-slice-read-t6 c = search needs
 
 sub-t7 : tie.Need-sub-t7
-sub-t7 c = rw (c .before .index .ensures) (c .before .before .before .pre .1)
+sub-t7 c = let has : HasPlace (c .before .before .before .args .numbers .now) (c .before .index .result) = rw (c .before .index .ensures) (c .before .before .before .pre .1) in
+    omega (arith, has)
 
 returns : tie.Need-returns
 returns c = ap (λ (i : ℕ). getD (c .before .before .before .args .numbers .now) i 0 - 1) (c .before .index .ensures)
