@@ -1,5 +1,5 @@
 // "How a sheet is pressed", of nodes that are judged proper, by the passes that the plan chooses: 1 the uses, 2 recycle, 3 rebuild, lowering if it is chosen, 4
-// and 5 the order from the conclusion, in which the nodes are laid out, 6 write. The tables belong to these functions, and each pass is lent the part in use.
+// and 5 the better order from the conclusion, in which the nodes are laid out, 6 write. The tables belong to these functions, and each pass is lent the part in use.
 ghost use mathlib.Core.Path.{_≡_};
 ghost use Prim.Native.Nat.{_≤_, _<_};
 ghost use lib.ListN.{length};
@@ -9,7 +9,7 @@ ghost use Rattle.sheet.specs.Fields.{sheetBytes};
 ghost use Rattle.press_spec.specs.Drops.{withDrops};
 ghost use Rattle.press_spec.specs.Rebuild.{ended};
 ghost use Rattle.press_spec.specs.Lowerings.{lowerOf};
-ghost use Rattle.press_spec.specs.Press.{shortened, arranged, conclusion, chosenFit, concluded, pressed, core, report};
+ghost use Rattle.press_spec.specs.Press.{shortened, arranged, conclusion, chosenFit, concluded, pressed, pressedOrder, core, report};
 ghost use Rattle.press_nodes.specs.Tables.{clauseWords, nodesIn, Nodes};
 ghost use Rattle.press_write.specs.Emittable.{Emittable};
 ghost use Rattle.press_write.specs.Reported.{reported};
@@ -62,11 +62,13 @@ fn finish(
     requires { ⌜ Nodes (now links) (now clauses) × (from .0 < length (now links)) × (length (now sets) ≡ clauseWords mostNodes) ⌝ }
     requires { ⌜ length (arranged (ended (nodesIn (now links) (now clauses)) (from .0))) ≤ mostNodes ⌝ }
     requires { ⌜ Emittable edition lines (arranged (ended (nodesIn (now links) (now clauses)) (from .0))) (now out) (now marks) ⌝ }
-    ensures { λ r. ⌜ Finishes edition lines (arranged (ended (nodesIn (now (links .entry)) (now (clauses .entry))) (from .0))) r (now (out .entry)) (now (marks .entry)) (now (out .exit)) (now (marks .exit)) ⌝ }
+    ensures { λ r. ⌜ Finishes edition lines (ended (nodesIn (now (links .entry)) (now (clauses .entry))) (from .0)) r (now (out .entry)) (now (marks .entry)) (now (out .exit)) (now (marks .exit)) ⌝ }
 {
     let n = links.len();
     let mut numbers = [0u16; CAPACITY];
-    let kept = press_order::order_from(links, from, &mut numbers[..n]) as usize;
+    let chosen = press_better::better_order(links, from, &mut numbers[..n]);
+    let order = chosen.order;
+    let kept = chosen.nodes as usize;
     let words = clause_table::words_for(kept);
     let mut laid = [0u64; MOST_NODES];
     press_lay::lay(
@@ -76,7 +78,15 @@ fn finish(
         &mut laid[..kept],
         &mut sets[..words],
     );
-    press_write::write(edition, &laid[..kept], &sets[..words], lines, out, marks)
+    press_write::write(
+        edition,
+        order,
+        &laid[..kept],
+        &sets[..words],
+        lines,
+        out,
+        marks,
+    )
 }
 
 // What is chosen is lowered, in tables with room for the new steps; then 4 to 6.
@@ -94,7 +104,7 @@ fn finish_lowered(
     requires { ⌜ Nodes (now links) (now clauses) × (length (now links) ≤ mostNodes) × (from .0 < length (now links)) × (length (now sets) ≡ clauseWords mostNodes) ⌝ }
     requires { ⌜ (length (lowerOf which (variables edition) (ended (nodesIn (now links) (now clauses)) (from .0)) .nodes) ≤ capacity) × (length (arranged (lowerOf which (variables edition) (ended (nodesIn (now links) (now clauses)) (from .0)))) ≤ mostNodes) ⌝ }
     requires { ⌜ Emittable edition lines (arranged (lowerOf which (variables edition) (ended (nodesIn (now links) (now clauses)) (from .0)))) (now out) (now marks) ⌝ }
-    ensures { λ r. ⌜ Finishes edition lines (arranged (lowerOf which (variables edition) (ended (nodesIn (now (links .entry)) (now (clauses .entry))) (from .0)))) r (now (out .entry)) (now (marks .entry)) (now (out .exit)) (now (marks .exit)) ⌝ }
+    ensures { λ r. ⌜ Finishes edition lines (lowerOf which (variables edition) (ended (nodesIn (now (links .entry)) (now (clauses .entry))) (from .0))) r (now (out .entry)) (now (marks .entry)) (now (out .exit)) (now (marks .exit)) ⌝ }
 {
     let mut wider_links = [0u64; CAPACITY];
     let mut wider_clauses = [0u64; CAPACITY_WORDS];
@@ -133,7 +143,7 @@ pub fn run_passes(
     requires { ⌜ Nodes (now links) (now clauses) × (0 < length (now links)) × (length (now links) ≤ mostNodes) ⌝ }
     requires { ⌜ (let s = nodesIn (now links) (now clauses) in (length (concluded plan (conclusion s) s .nodes) ≤ capacity) × (length (pressed plan s) ≤ mostNodes)) ⌝ }
     requires { ⌜ Emittable (plan .edition) lines (pressed plan (nodesIn (now links) (now clauses))) (now out) (now marks) ⌝ }
-    ensures report { λ r. ⌜ reported r ≡ report lines (pressed plan (nodesIn (now (links .entry)) (now (clauses .entry)))) ⌝ }
+    ensures report { λ r. ⌜ (let s = nodesIn (now (links .entry)) (now (clauses .entry)) in reported r ≡ report lines (pressedOrder plan s) (pressed plan s)) ⌝ }
     ensures lent { λ _. ⌜ (now (out .exit) ≡ put (now (out .entry)) 0 (sheetBytes (plan .edition) (withDrops (pressed plan (nodesIn (now (links .entry)) (now (clauses .entry))))))) × (now (marks .exit) ≡ put (now (marks .entry)) 0 (core lines (pressed plan (nodesIn (now (links .entry)) (now (clauses .entry)))))) ⌝ }
 {
     let n = links.len();

@@ -11,4 +11,5 @@ reported r = record {
   steps = r .steps;
   peak = r .peak;
   marked = r .marked;
+  order = r .order;
 }

@@ -9,6 +9,7 @@ ghost use Rattle.press_write.specs.Emittable.{Emittable};
 ghost use Rattle.press_write.specs.Reported.{reported};
 use clause::Clause;
 use press_nodes::clause_table;
+use press_spec::Order;
 use sheet::NodeNo;
 use sheet::edition::Edition;
 
@@ -20,10 +21,13 @@ pub struct Pressed {
     pub steps: u16,
     pub peak: u16,
     pub marked: u16,
+    pub order: Order,
 }
 
+// The order is the one in which the nodes stand: it is reported.
 pub fn write(
     edition: Edition,
+    order: Order,
     links: &[u64],
     clauses: &[u64],
     lines: usize,
@@ -32,7 +36,7 @@ pub fn write(
 ) -> Pressed
     requires { ⌜ Nodes (now links) (now clauses) ⌝ }
     requires { ⌜ Emittable edition lines (nodesIn (now links) (now clauses)) (now out) (now marks) ⌝ }
-    ensures report { λ r. ⌜ reported r ≡ report lines (nodesIn (now (links .entry)) (now (clauses .entry))) ⌝ }
+    ensures report { λ r. ⌜ reported r ≡ report lines order (nodesIn (now (links .entry)) (now (clauses .entry))) ⌝ }
     ensures lent { λ _. ⌜ (now (out .exit) ≡ put (now (out .entry)) 0 (sheetBytes edition (withDrops (nodesIn (now (links .entry)) (now (clauses .entry)))))) × (now (marks .exit) ≡ put (now (marks .entry)) 0 (core lines (nodesIn (now (links .entry)) (now (clauses .entry))))) ⌝ }
 {
     let sink = NodeNo((links.len() - 1) as u16);
@@ -45,5 +49,6 @@ pub fn write(
         steps: emitted.tally.steps,
         peak: emitted.tally.peak,
         marked,
+        order,
     }
 }

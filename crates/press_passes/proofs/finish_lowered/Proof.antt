@@ -61,10 +61,10 @@ module _ (w : tie.After-words-for) where
   tables : Nodes (take (nodes low) (links low)) (take words (clauses low))
   tables = subst (λ (k : ℕ). Nodes (take (nodes low) (links low)) (take k (clauses low))) (sym (w .words-for .ensures)) (low .lower .ensures .1 .0)
 
-  finished : arranged (ended (nodesIn (take (nodes low) (links low)) (take words (clauses low))) (low .lower .result .last .0)) ≡ arranged (whole (start low))
+  finished : ended (nodesIn (take (nodes low) (links low)) (take words (clauses low))) (low .lower .result .last .0) ≡ whole (start low)
   finished =
-      ap (λ (k : ℕ). arranged (ended (nodesIn (take (nodes low) (links low)) (take k (clauses low))) (low .lower .result .last .0))) (w .words-for .ensures)
-      ∙ ap arranged (lowered-is low)
+      ap (λ (k : ℕ). ended (nodesIn (take (nodes low) (links low)) (take k (clauses low))) (low .lower .result .last .0)) (w .words-for .ensures)
+      ∙ lowered-is low
 
 slice-aggregate-lower : tie.Need-slice-aggregate-lower
 slice-aggregate-lower c = search needs
@@ -103,8 +103,8 @@ finish-requires c κs = let st = c .before .before .before .before .before .befo
     let a = st .args in (
       (tables w, rw (length-take-le (nodes l) (links l) (omega (arith, few l, links-long l))) (l .lower .ensures .1 .1), st .pre .0 .3),
       (
-        rw (finished w) (st .pre .1 .0 .1),
-        subst (λ (s : List Node). Emittable (a .edition) (a .lines) s (a .out .now) (a .marks .now)) (sym (finished w)) (st .pre .1 .1),
+        rw (ap arranged (finished w)) (st .pre .1 .0 .1),
+        subst (λ (s : List Node). Emittable (a .edition) (a .lines) s (a .out .now) (a .marks .now)) (sym (ap arranged (finished w))) (st .pre .1 .1),
       ),
     )
 
@@ -127,7 +127,7 @@ returns : tie.Need-returns
 returns c = let st = c .before .before .before .before .before .before .before .before .before .before .before .before .before .before .before .before .before .before .before .before .before .before .before .before .before .before .before .before .before .before in
     let a = st .args in
     let f = c .before .before .before .before .before .before .finish in
-    subst (λ (s : List Node). Finishes (a .edition) (a .lines) s (f .result) (a .out .now) (a .marks .now) (f .last .1 .1 .1 .1 .1 .1 .0) (f .last .1 .1 .1 .1 .1 .1 .1 .0)) (finished (c .before .before .before .before .before .before .before .before .before .before .before .before)) (f .ensures)
+    subst (λ (x : Ended). Finishes (a .edition) (a .lines) x (f .result) (a .out .now) (a .marks .now) (f .last .1 .1 .1 .1 .1 .1 .0) (f .last .1 .1 .1 .1 .1 .1 .1 .0)) (finished (c .before .before .before .before .before .before .before .before .before .before .before .before)) (f .ensures)
 
 pub finish-lowered-spec : {M : Type 1} → statement M
 finish-lowered-spec =

@@ -1,23 +1,20 @@
 use Prim.Native.Nat.{ℕ, _≤_}
 use mathlib.Core.List.{List, _++_}
-use mathlib.Core.Path.{_≡_, sym, ap, subst, _∙_}
+use mathlib.Core.Path.{_≡_, sym, subst, _∙_}
 use native.Mathlib.Omega.{arith}
 use lib.ListN.{length, take, drop, replicate, length-replicate}
 use lib.Seq.{length-front}
-use Rattle.base.specs.Bytes.{put}
 use Rattle.sheet.specs.Editions.{variables, mostNodes, capacity}
-use Rattle.sheet.specs.Fields.{sheetBytes}
 use Rattle.sheet.specs.Records.{Node}
-use Rattle.press_spec.specs.Drops.{withDrops}
 use Rattle.press_spec.specs.Rebuild.{Ended, ended}
 use Rattle.press_spec.specs.Lowerings.{lowerOf}
-use Rattle.press_spec.specs.Press.{arranged, pressed, core, report}
+use Rattle.press_spec.specs.Press.{conclusion, concluded}
 use Rattle.press_spec.specs.declared.Lowerable.{Lowerable}
 use Rattle.press_spec.specs.declared.Lowering.the-variants.{Nothing, Of}
 use Rattle.press_nodes.specs.Tables.{clauseWords, nodesIn}
 use Rattle.press_nodes.proofs.Lent.{lent-long}
 use Rattle.press_write.specs.Emittable.{Emittable}
-use Rattle.press_passes.proofs.Chosen.{nothing-pressed, lowered-concluded, lowered-pressed}
+use Rattle.press_passes.proofs.Chosen.{nothing-concluded, lowered-concluded, arranged-pressed, finishes-pressed}
 use borrow.Author.Needs.{needs}
 use Rattle.press_passes.proofs.run_passes.Statement.{statement}
 use Rattle.press_passes.proofs.run_passes.Tie as tie
@@ -54,12 +51,12 @@ module _ (b : tie.After-shorten) where
       length-front (replicate (clauseWords mostNodes) 0) (b .shorten .last .1 .1 .1 .0) (b .before .before .before .before .words-for .result) (b .shorten .kept .1 .1 .1 .0)
       ∙ length-replicate {A = ℕ} (clauseWords mostNodes) 0
 
-  nothing : start .args .plan .lowering ≡ Nothing → arranged t ≡ pressed (start .args .plan) (nodes start)
-  nothing = nothing-pressed (start .args .plan) (nodes start) t (b .shorten .ensures .1)
+  nothing : start .args .plan .lowering ≡ Nothing → t ≡ concluded (start .args .plan) (conclusion (nodes start)) (nodes start)
+  nothing = nothing-concluded (start .args .plan) (nodes start) t (b .shorten .ensures .1)
 
   lowered : (which : Lowerable) → start .args .plan .lowering ≡ Of which
-      → arranged (lowerOf which (variables (start .args .plan .edition)) t) ≡ pressed (start .args .plan) (nodes start)
-  lowered = lowered-pressed (start .args .plan) (nodes start) t (b .shorten .ensures .1)
+      → lowerOf which (variables (start .args .plan .edition)) t ≡ concluded (start .args .plan) (conclusion (nodes start)) (nodes start)
+  lowered = lowered-concluded (start .args .plan) (nodes start) t (b .shorten .ensures .1)
 
 words-for-requires : tie.Need-words-for-requires
 words-for-requires c κs = omega (arith, few (c .before .before .before .before))
@@ -84,7 +81,7 @@ finish-requires : tie.Need-finish-requires
 finish-requires c κs = let st = c .before .before .before .before .before .before .before .before .before .before .before .before .before .before .before .before .before .before .before .before .before in
     let b = c .before .before .before .before .before .before .before .before .before .before .before .before in
     let a = st .args in
-    let q = nothing b (c .before .before .before .before .before .enum-told .given .1) in (
+    let q = arranged-pressed (a .plan) (nodes st) _ (nothing b (c .before .before .before .before .before .enum-told .given .1)) in (
       (b .shorten .ensures .0 .0, b .shorten .ensures .0 .1, sets-long b),
       (
         rw q (st .pre .1 .0 .1),
@@ -103,8 +100,8 @@ finish-lowered-requires c κs = let st = c .before .before .before .before .befo
     let b = c .before .before .before .before .before .before .before .before .before .before .before .before .before in
     let a = st .args in
     let p = c .before .before .before .before .before .before .lowering .given .1 in
-    let q = lowered b _ p in
-    let e = lowered-concluded (a .plan) (nodes st) (t b) (b .shorten .ensures .1) _ p in (
+    let e = lowered b _ p in
+    let q = arranged-pressed (a .plan) (nodes st) _ e in (
       (b .shorten .ensures .0 .0, rw (b .shorten .kept .1 .0) (few st), b .shorten .ensures .0 .1, sets-long b),
       (
         (subst (λ (y : Ended). length (y .nodes) ≤ capacity) (sym e) (st .pre .1 .0 .0), rw q (st .pre .1 .0 .1)),
@@ -128,13 +125,7 @@ returns : tie.Need-returns
 returns c = let st = c .before .before .before .before .before .before .before .before .before .before .before .before .before .before .before .before .before .before .before .before .before .before .before .before .before .before .before in
     let a = st .args in
     let e = c .before .before .before .before .before .finish .ensures in
-    let same = nothing (c .before .before .before .before .before .before .before .before .before .before .before .before .before .before .before .before .before .before) (c .before .before .before .before .before .before .before .before .before .before .before .enum-told .given .1) in (
-      e .0 ∙ ap (report (a .lines)) same,
-      (
-        e .1 ∙ ap (λ (s : List Node). put (a .out .now) 0 (sheetBytes (a .plan .edition) (withDrops s))) same,
-        e .2 ∙ ap (λ (s : List Node). put (a .marks .now) 0 (core (a .lines) s)) same,
-      ),
-    )
+    finishes-pressed (a .plan) (nodes st) _ (nothing (c .before .before .before .before .before .before .before .before .before .before .before .before .before .before .before .before .before .before) (c .before .before .before .before .before .before .before .before .before .before .before .enum-told .given .1)) _ _ _ _ _ _ e
 
 same-length-5 : tie.Need-same-length-5
 same-length-5 c = c .before .before .before .before .before .before .before .before .before .finish-lowered .kept .1 .1 .0 ∙ c .before .before .before .before .before .before .before .before .before .before .before .before .before .before .before .before .before .before .before .before .before .before .before .shorten .kept .1 .0
@@ -152,13 +143,7 @@ returns-2 : tie.Need-returns-2
 returns-2 c = let st = c .before .before .before .before .before .before .before .before .before .before .before .before .before .before .before .before .before .before .before .before .before .before .before .before .before .before .before .before .before .before .before .before in
     let a = st .args in
     let e = c .before .before .before .before .before .before .before .before .before .finish-lowered .ensures in
-    let same = lowered (c .before .before .before .before .before .before .before .before .before .before .before .before .before .before .before .before .before .before .before .before .before .before .before) _ (c .before .before .before .before .before .before .before .before .before .before .before .before .before .before .before .before .lowering .given .1) in (
-      e .0 ∙ ap (report (a .lines)) same,
-      (
-        e .1 ∙ ap (λ (s : List Node). put (a .out .now) 0 (sheetBytes (a .plan .edition) (withDrops s))) same,
-        e .2 ∙ ap (λ (s : List Node). put (a .marks .now) 0 (core (a .lines) s)) same,
-      ),
-    )
+    finishes-pressed (a .plan) (nodes st) _ (lowered (c .before .before .before .before .before .before .before .before .before .before .before .before .before .before .before .before .before .before .before .before .before .before .before) _ (c .before .before .before .before .before .before .before .before .before .before .before .before .before .before .before .before .lowering .given .1)) _ _ _ _ _ _ e
 
 pub run-passes-spec : {M : Type 1} → statement M
 run-passes-spec =
