@@ -48,6 +48,7 @@ ALLOWED = [
     ("demands/specs/Recyclings.antt", "", "worked sheets, byte by byte"),
     ("demands/specs/Lowerings.antt", "", "worked sheets, byte by byte"),
     ("demands/specs/Univalents.antt", "", "worked sheets, byte by byte"),
+    ("demands/specs/Orders.antt", "", "worked sheets, byte by byte"),
     ("cases_run/src/lib.rt", "const HEADER: usize = 16;", "the bytes before a case of a stream, and no size of a sheet"),
     ("demands/specs/Cases.antt", "needed Narrow n = 48 * n - 24", "the document's own numbers, which the tables compare with what the press asks for"),
     ("demands/specs/Cases.antt", "needed Wide n = 80 * n - 40", "the same for the wide edition"),

@@ -9,6 +9,7 @@ use Rattle.sheet.specs.Fields.{sheetBytes}
 use Rattle.press_spec.specs.declared.Recycling.the-variants.{Reset, Intersection}
 use Rattle.press_spec.specs.declared.Lowering.the-variants.{Of}
 use Rattle.press_spec.specs.declared.Lowerable.the-variants.{Units}
+use Rattle.press_spec.specs.declared.Order.the-variants.{BottomUp, TopDown}
 use Rattle.press_spec.specs.Plans.{plan}
 use Rattle.demands.specs.Cases.{Case, accepts, allRight}
 
@@ -157,18 +158,18 @@ againLowered =
     node (given 0 (literals 1 0))
     ∷ node (given 1 (literals 2 1))
     ∷ node (given 2 (literals 1 2))
-    ∷ node (given 6 (literals 4 2))
     ∷ node (given 3 (literals 8 1))
     ∷ node (given 4 (literals 16 9))
-    ∷ node (step 3 4 5 (literals 16 1))
-    ∷ drop 4
-    ∷ drop 5
-    ∷ node (given 5 (literals 0 21))
-    ∷ node (step 4 6 7 (literals 0 5))
-    ∷ drop 6
-    ∷ drop 7
-    ∷ node (step 2 3 8 (literals 0 3))
+    ∷ node (step 3 3 4 (literals 16 1))
     ∷ drop 3
+    ∷ drop 4
+    ∷ node (given 5 (literals 0 21))
+    ∷ node (step 4 5 6 (literals 0 5))
+    ∷ drop 5
+    ∷ drop 6
+    ∷ node (given 6 (literals 4 2))
+    ∷ node (step 2 8 7 (literals 0 3))
+    ∷ drop 7
     ∷ drop 8
     ∷ node (step 0 2 9 (literals 0 2))
     ∷ drop 2
@@ -371,16 +372,16 @@ twiceAgainResetLowered =
 
 unfoldable pub lowerings : List Case
 lowerings =
-    accepts (plan Narrow Intersection (Of Units)) everywhereRules everywhere (0 ∷ 0 ∷ 13 ∷ 7 ∷ 3 ∷ 4 ∷ 4 ∷ []) (sheetBytes Narrow everywhereLowered) (1 ∷ 1 ∷ 1 ∷ 1 ∷ [])
-    ∷ accepts (plan Narrow Intersection (Of Units)) withinRules within (0 ∷ 0 ∷ 13 ∷ 7 ∷ 3 ∷ 5 ∷ 4 ∷ []) (sheetBytes Narrow withinLowered) (1 ∷ 1 ∷ 1 ∷ 1 ∷ [])
-    ∷ accepts (plan Narrow Intersection (Of Units)) oppositesRules opposites (0 ∷ 0 ∷ 23 ∷ 12 ∷ 6 ∷ 4 ∷ 6 ∷ []) (sheetBytes Narrow oppositesLowered) (1 ∷ 1 ∷ 1 ∷ 1 ∷ 1 ∷ 1 ∷ [])
-    ∷ accepts (plan Narrow Intersection (Of Units)) againRules again (0 ∷ 0 ∷ 25 ∷ 13 ∷ 6 ∷ 7 ∷ 7 ∷ []) (sheetBytes Narrow againLowered) (1 ∷ 1 ∷ 1 ∷ 1 ∷ 1 ∷ 1 ∷ 1 ∷ [])
-    ∷ accepts (plan Narrow Intersection (Of Units)) staysRules stays (0 ∷ 0 ∷ 17 ∷ 9 ∷ 4 ∷ 5 ∷ 5 ∷ []) (sheetBytes Narrow staysLowered) (0 ∷ 1 ∷ 1 ∷ 1 ∷ 1 ∷ 1 ∷ [])
-    ∷ accepts (plan Narrow Intersection (Of Units)) onceRules once (0 ∷ 0 ∷ 9 ∷ 5 ∷ 2 ∷ 3 ∷ 3 ∷ []) (sheetBytes Narrow onceLowered) (1 ∷ 1 ∷ 1 ∷ [])
-    ∷ accepts (plan Narrow Intersection (Of Units)) mergedRules merged (0 ∷ 0 ∷ 9 ∷ 5 ∷ 2 ∷ 3 ∷ 3 ∷ []) (sheetBytes Narrow mergedLowered) (1 ∷ 0 ∷ 0 ∷ 1 ∷ 1 ∷ [])
-    ∷ accepts (plan Narrow Intersection (Of Units)) fewerRules fewer (0 ∷ 4 ∷ 9 ∷ 5 ∷ 2 ∷ 4 ∷ 3 ∷ []) (sheetBytes Narrow fewerLowered) (1 ∷ 0 ∷ 0 ∷ 1 ∷ 1 ∷ [])
-    ∷ accepts (plan Wide Intersection (Of Units)) highEverywhereRules highEverywhere (0 ∷ 0 ∷ 13 ∷ 7 ∷ 3 ∷ 4 ∷ 4 ∷ []) (sheetBytes Wide highEverywhereLowered) (1 ∷ 1 ∷ 1 ∷ 1 ∷ [])
-    ∷ accepts (plan Narrow Reset (Of Units)) twiceAgainRules twiceAgain (1 ∷ 1 ∷ 7 ∷ 4 ∷ 2 ∷ 3 ∷ 2 ∷ []) (sheetBytes Narrow twiceAgainResetLowered) (1 ∷ 1 ∷ [])
+    accepts (plan Narrow Intersection (Of Units)) everywhereRules everywhere (0 ∷ 0 ∷ 13 ∷ 7 ∷ 3 ∷ 4 ∷ 4 ∷ []) BottomUp (sheetBytes Narrow everywhereLowered) (1 ∷ 1 ∷ 1 ∷ 1 ∷ [])
+    ∷ accepts (plan Narrow Intersection (Of Units)) withinRules within (0 ∷ 0 ∷ 13 ∷ 7 ∷ 3 ∷ 5 ∷ 4 ∷ []) BottomUp (sheetBytes Narrow withinLowered) (1 ∷ 1 ∷ 1 ∷ 1 ∷ [])
+    ∷ accepts (plan Narrow Intersection (Of Units)) oppositesRules opposites (0 ∷ 0 ∷ 23 ∷ 12 ∷ 6 ∷ 4 ∷ 6 ∷ []) BottomUp (sheetBytes Narrow oppositesLowered) (1 ∷ 1 ∷ 1 ∷ 1 ∷ 1 ∷ 1 ∷ [])
+    ∷ accepts (plan Narrow Intersection (Of Units)) againRules again (0 ∷ 0 ∷ 25 ∷ 13 ∷ 6 ∷ 6 ∷ 7 ∷ []) TopDown (sheetBytes Narrow againLowered) (1 ∷ 1 ∷ 1 ∷ 1 ∷ 1 ∷ 1 ∷ 1 ∷ [])
+    ∷ accepts (plan Narrow Intersection (Of Units)) staysRules stays (0 ∷ 0 ∷ 17 ∷ 9 ∷ 4 ∷ 5 ∷ 5 ∷ []) BottomUp (sheetBytes Narrow staysLowered) (0 ∷ 1 ∷ 1 ∷ 1 ∷ 1 ∷ 1 ∷ [])
+    ∷ accepts (plan Narrow Intersection (Of Units)) onceRules once (0 ∷ 0 ∷ 9 ∷ 5 ∷ 2 ∷ 3 ∷ 3 ∷ []) BottomUp (sheetBytes Narrow onceLowered) (1 ∷ 1 ∷ 1 ∷ [])
+    ∷ accepts (plan Narrow Intersection (Of Units)) mergedRules merged (0 ∷ 0 ∷ 9 ∷ 5 ∷ 2 ∷ 3 ∷ 3 ∷ []) BottomUp (sheetBytes Narrow mergedLowered) (1 ∷ 0 ∷ 0 ∷ 1 ∷ 1 ∷ [])
+    ∷ accepts (plan Narrow Intersection (Of Units)) fewerRules fewer (0 ∷ 4 ∷ 9 ∷ 5 ∷ 2 ∷ 4 ∷ 3 ∷ []) BottomUp (sheetBytes Narrow fewerLowered) (1 ∷ 0 ∷ 0 ∷ 1 ∷ 1 ∷ [])
+    ∷ accepts (plan Wide Intersection (Of Units)) highEverywhereRules highEverywhere (0 ∷ 0 ∷ 13 ∷ 7 ∷ 3 ∷ 4 ∷ 4 ∷ []) BottomUp (sheetBytes Wide highEverywhereLowered) (1 ∷ 1 ∷ 1 ∷ 1 ∷ [])
+    ∷ accepts (plan Narrow Reset (Of Units)) twiceAgainRules twiceAgain (1 ∷ 1 ∷ 7 ∷ 4 ∷ 2 ∷ 3 ∷ 2 ∷ []) BottomUp (sheetBytes Narrow twiceAgainResetLowered) (1 ∷ 1 ∷ [])
     ∷ []
 
 abbrev pub Lowerings : Type 0

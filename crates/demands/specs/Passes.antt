@@ -3,7 +3,7 @@ use Prim.Native.Nat.{ℕ, suc, _<_, _≤_}
 use mathlib.Core.Path.{_≡_}
 use mathlib.Core.Bool.{true, false}
 use mathlib.Core.Logic.{_⊎_}
-use mathlib.Core.List.{List}
+use mathlib.Core.List.{List, _∷_, _++_}
 use lib.ListN.{length, getD}
 use Rattle.clause.specs.Clauses.{Literal, Literals, none, holds}
 use Rattle.sheet.specs.declared.edition.Edition.{Edition}
@@ -16,6 +16,7 @@ use Rattle.press_spec.specs.declared.Recycling.the-variants.{Intersection}
 use Rattle.press_spec.specs.declared.Lowerable.{Lowerable}
 use Rattle.press_spec.specs.declared.Lowering.{Lowering}
 use Rattle.press_spec.specs.declared.Lowering.the-variants.{Nothing}
+use Rattle.press_spec.specs.declared.Order.{Order}
 use Rattle.press_spec.specs.declared.Plan.{Plan}
 use Rattle.press_spec.specs.Plans as Plans
 use Rattle.press_spec.specs.Links.{links, sink}
@@ -24,7 +25,10 @@ use Rattle.press_spec.specs.Recycle.{Reach, unreached, reached, cutLeft, cutOf,
 use Rattle.press_spec.specs.Rebuild.{standIn, standing, Ended}
 use Rattle.press_spec.specs.Lower.{lowered, lowAt, unitConcludes, returnOf, Back}
 use Rattle.press_spec.specs.Lowerings.{lowsOf, builtOf}
-use Rattle.press_spec.specs.Press.{conclusion, reaches, recycled, shortened, chosenFit, pressedFrom, pressed}
+use Rattle.press_spec.specs.Order.{placed, InOrder}
+use Rattle.press_spec.specs.TopDown.{topDown, Taken}
+use Rattle.press_spec.specs.Better.{orderBy}
+use Rattle.press_spec.specs.Press.{conclusion, reaches, recycled, shortened, chosenFit, concluded, pressedFrom, pressed}
 
 -- "Keep what the sink reaches through parents": of every proper sheet the trim has 1 for each node that the sink reaches, and 0 for each other
 abbrev pub TrimKeeps : Type 0
@@ -108,3 +112,29 @@ NoUnitConcludes =
     → low n ≡ lowered l
     → returnOf l (clause (nodeAt (t .nodes) (standIn b n))) (clause (nodeAt (t .nodes) (t .last))) ≡ unitConcludes
     → ⊥
+
+-- ---- The two orders.
+
+-- what step 5 orders, from its conclusion
+abbrev pub ordered : Plan → List Record → Ended
+ordered plan rs = concluded plan (conclusion (nodesOf rs)) (nodesOf rs)
+
+-- "The premises are placed first, then the node itself, each node once": in both orders, which have what the conclusion reaches and nothing else
+abbrev pub BothInOrder : Type 0
+BothInOrder =
+    (plan : Plan) (which : Order) (sheet rules : List ℕ) (rs : List Record)
+    → Proper (plan .edition) (pressRecords (plan .edition)) false rules sheet rs
+    → let t = ordered plan rs in
+    let reached = Reaches (links (t .nodes)) (t .last) in
+    let order = orderBy which (t .nodes) (t .last) in
+    InOrder (links (t .nodes)) reached order × ((n : ℕ) → reached n → placed n order ≡ true)
+
+-- "Of the unplaced nodes whose parents are all placed, take the one after which most nodes can be dropped at once; ties go to the smallest number": so
+-- was every node of the top-down order taken, when those that stand before it were placed
+abbrev pub TakesMost : Type 0
+TakesMost =
+    (plan : Plan) (sheet rules : List ℕ) (rs : List Record) (newer before : List ℕ) (n : ℕ)
+    → Proper (plan .edition) (pressRecords (plan .edition)) false rules sheet rs
+    → let t = ordered plan rs in
+    topDown (links (t .nodes)) (t .last) ≡ newer ++ (n ∷ before)
+    → Taken (links (t .nodes)) (trim (links (t .nodes)) (t .last)) before n

@@ -8,6 +8,7 @@ use Rattle.sheet.specs.Records.{given, step, Record, node, drop}
 use Rattle.sheet.specs.Fields.{sheetBytes}
 use Rattle.press_spec.specs.declared.Recycling.the-variants.{Reset, Intersection}
 use Rattle.press_spec.specs.declared.Lowering.the-variants.{Nothing}
+use Rattle.press_spec.specs.declared.Order.the-variants.{BottomUp}
 use Rattle.press_spec.specs.Plans.{plan}
 use Rattle.demands.specs.Cases.{Case, accepts, allRight}
 
@@ -303,18 +304,18 @@ twiceAfterIntersected =
 
 unfoldable pub recyclings : List Case
 recyclings =
-    accepts (plan Narrow Reset Nothing) allAllowRules allAllow (0 ∷ 0 ∷ 15 ∷ 8 ∷ 4 ∷ 4 ∷ 4 ∷ []) (sheetBytes Narrow allAllowReset) (1 ∷ 1 ∷ 1 ∷ 1 ∷ [])
-    ∷ accepts (plan Narrow Intersection Nothing) allAllowRules allAllow (0 ∷ 0 ∷ 13 ∷ 7 ∷ 3 ∷ 4 ∷ 4 ∷ []) (sheetBytes Narrow allAllowIntersected) (1 ∷ 1 ∷ 1 ∷ 1 ∷ [])
-    ∷ accepts (plan Narrow Reset Nothing) resetShorterRules resetShorter (0 ∷ 4 ∷ 5 ∷ 3 ∷ 1 ∷ 3 ∷ 2 ∷ []) (sheetBytes Narrow resetShorterReset) (0 ∷ 1 ∷ 0 ∷ 0 ∷ 1 ∷ 0 ∷ [])
-    ∷ accepts (plan Narrow Intersection Nothing) resetShorterRules resetShorter (0 ∷ 4 ∷ 9 ∷ 5 ∷ 2 ∷ 4 ∷ 3 ∷ []) (sheetBytes Narrow resetShorterIntersected) (1 ∷ 1 ∷ 1 ∷ 0 ∷ 0 ∷ 0 ∷ [])
-    ∷ accepts (plan Narrow Reset Nothing) keepsCommonRules keepsCommon (0 ∷ 4 ∷ 19 ∷ 10 ∷ 5 ∷ 4 ∷ 5 ∷ []) (sheetBytes Narrow keepsCommonReset) (1 ∷ 1 ∷ 1 ∷ 1 ∷ 1 ∷ [])
-    ∷ accepts (plan Narrow Intersection Nothing) keepsCommonRules keepsCommon (0 ∷ 4 ∷ 15 ∷ 8 ∷ 4 ∷ 4 ∷ 4 ∷ []) (sheetBytes Narrow keepsCommonIntersected) (1 ∷ 0 ∷ 1 ∷ 1 ∷ 1 ∷ [])
-    ∷ accepts (plan Narrow Reset Nothing) cutUseRules cutUse (0 ∷ 0 ∷ 15 ∷ 8 ∷ 4 ∷ 4 ∷ 4 ∷ []) (sheetBytes Narrow cutUseReset) (1 ∷ 1 ∷ 1 ∷ 1 ∷ [])
-    ∷ accepts (plan Narrow Intersection Nothing) cutUseRules cutUse (0 ∷ 0 ∷ 9 ∷ 5 ∷ 2 ∷ 4 ∷ 3 ∷ []) (sheetBytes Narrow cutUseIntersected) (1 ∷ 0 ∷ 1 ∷ 1 ∷ [])
-    ∷ accepts (plan Narrow Reset Nothing) unreachedUseRules unreachedUse (0 ∷ 0 ∷ 15 ∷ 8 ∷ 4 ∷ 4 ∷ 4 ∷ []) (sheetBytes Narrow unreachedUseReset) (1 ∷ 1 ∷ 1 ∷ 1 ∷ [])
-    ∷ accepts (plan Narrow Intersection Nothing) unreachedUseRules unreachedUse (0 ∷ 0 ∷ 9 ∷ 5 ∷ 2 ∷ 4 ∷ 3 ∷ []) (sheetBytes Narrow unreachedUseIntersected) (1 ∷ 1 ∷ 0 ∷ 1 ∷ [])
-    ∷ accepts (plan Narrow Reset Nothing) twiceAfterRules twiceAfter (5 ∷ 3 ∷ 9 ∷ 5 ∷ 3 ∷ 3 ∷ 2 ∷ []) (sheetBytes Narrow twiceAfterReset) (1 ∷ 1 ∷ [])
-    ∷ accepts (plan Narrow Intersection Nothing) twiceAfterRules twiceAfter (4 ∷ 3 ∷ 1 ∷ 1 ∷ 0 ∷ 1 ∷ 1 ∷ []) (sheetBytes Narrow twiceAfterIntersected) (1 ∷ 0 ∷ [])
+    accepts (plan Narrow Reset Nothing) allAllowRules allAllow (0 ∷ 0 ∷ 15 ∷ 8 ∷ 4 ∷ 4 ∷ 4 ∷ []) BottomUp (sheetBytes Narrow allAllowReset) (1 ∷ 1 ∷ 1 ∷ 1 ∷ [])
+    ∷ accepts (plan Narrow Intersection Nothing) allAllowRules allAllow (0 ∷ 0 ∷ 13 ∷ 7 ∷ 3 ∷ 4 ∷ 4 ∷ []) BottomUp (sheetBytes Narrow allAllowIntersected) (1 ∷ 1 ∷ 1 ∷ 1 ∷ [])
+    ∷ accepts (plan Narrow Reset Nothing) resetShorterRules resetShorter (0 ∷ 4 ∷ 5 ∷ 3 ∷ 1 ∷ 3 ∷ 2 ∷ []) BottomUp (sheetBytes Narrow resetShorterReset) (0 ∷ 1 ∷ 0 ∷ 0 ∷ 1 ∷ 0 ∷ [])
+    ∷ accepts (plan Narrow Intersection Nothing) resetShorterRules resetShorter (0 ∷ 4 ∷ 9 ∷ 5 ∷ 2 ∷ 4 ∷ 3 ∷ []) BottomUp (sheetBytes Narrow resetShorterIntersected) (1 ∷ 1 ∷ 1 ∷ 0 ∷ 0 ∷ 0 ∷ [])
+    ∷ accepts (plan Narrow Reset Nothing) keepsCommonRules keepsCommon (0 ∷ 4 ∷ 19 ∷ 10 ∷ 5 ∷ 4 ∷ 5 ∷ []) BottomUp (sheetBytes Narrow keepsCommonReset) (1 ∷ 1 ∷ 1 ∷ 1 ∷ 1 ∷ [])
+    ∷ accepts (plan Narrow Intersection Nothing) keepsCommonRules keepsCommon (0 ∷ 4 ∷ 15 ∷ 8 ∷ 4 ∷ 4 ∷ 4 ∷ []) BottomUp (sheetBytes Narrow keepsCommonIntersected) (1 ∷ 0 ∷ 1 ∷ 1 ∷ 1 ∷ [])
+    ∷ accepts (plan Narrow Reset Nothing) cutUseRules cutUse (0 ∷ 0 ∷ 15 ∷ 8 ∷ 4 ∷ 4 ∷ 4 ∷ []) BottomUp (sheetBytes Narrow cutUseReset) (1 ∷ 1 ∷ 1 ∷ 1 ∷ [])
+    ∷ accepts (plan Narrow Intersection Nothing) cutUseRules cutUse (0 ∷ 0 ∷ 9 ∷ 5 ∷ 2 ∷ 4 ∷ 3 ∷ []) BottomUp (sheetBytes Narrow cutUseIntersected) (1 ∷ 0 ∷ 1 ∷ 1 ∷ [])
+    ∷ accepts (plan Narrow Reset Nothing) unreachedUseRules unreachedUse (0 ∷ 0 ∷ 15 ∷ 8 ∷ 4 ∷ 4 ∷ 4 ∷ []) BottomUp (sheetBytes Narrow unreachedUseReset) (1 ∷ 1 ∷ 1 ∷ 1 ∷ [])
+    ∷ accepts (plan Narrow Intersection Nothing) unreachedUseRules unreachedUse (0 ∷ 0 ∷ 9 ∷ 5 ∷ 2 ∷ 4 ∷ 3 ∷ []) BottomUp (sheetBytes Narrow unreachedUseIntersected) (1 ∷ 1 ∷ 0 ∷ 1 ∷ [])
+    ∷ accepts (plan Narrow Reset Nothing) twiceAfterRules twiceAfter (5 ∷ 3 ∷ 9 ∷ 5 ∷ 3 ∷ 3 ∷ 2 ∷ []) BottomUp (sheetBytes Narrow twiceAfterReset) (1 ∷ 1 ∷ [])
+    ∷ accepts (plan Narrow Intersection Nothing) twiceAfterRules twiceAfter (4 ∷ 3 ∷ 1 ∷ 1 ∷ 0 ∷ 1 ∷ 1 ∷ []) BottomUp (sheetBytes Narrow twiceAfterIntersected) (1 ∷ 0 ∷ [])
     ∷ []
 
 abbrev pub Recyclings : Type 0

@@ -10,6 +10,7 @@ use Rattle.sheet.specs.Fields.{sheetBytes}
 use Rattle.press_spec.specs.declared.Recycling.the-variants.{Intersection}
 use Rattle.press_spec.specs.declared.Lowering.the-variants.{Of}
 use Rattle.press_spec.specs.declared.Lowerable.the-variants.{Univalents}
+use Rattle.press_spec.specs.declared.Order.the-variants.{BottomUp}
 use Rattle.press_spec.specs.Plans.{plan}
 use Rattle.demands.specs.Cases.{Case, accepts, allRight}
 use Rattle.demands.specs.Lowerings.{opposites, oppositesRules, stays, staysRules, fewer, fewerRules, fewerLowered}
@@ -296,15 +297,15 @@ highAfterUnivalents =
 
 unfoldable pub univalents : List Case
 univalents =
-    accepts (plan Narrow Intersection (Of Univalents)) oppositesRules opposites (0 ∷ 0 ∷ 23 ∷ 12 ∷ 6 ∷ 6 ∷ 6 ∷ []) (sheetBytes Narrow oppositesUnivalents) (1 ∷ 1 ∷ 1 ∷ 1 ∷ 1 ∷ 1 ∷ [])
-    ∷ accepts (plan Narrow Intersection (Of Univalents)) staysRules stays (0 ∷ 0 ∷ 23 ∷ 12 ∷ 6 ∷ 6 ∷ 6 ∷ []) (sheetBytes Narrow staysUnivalents) (1 ∷ 1 ∷ 1 ∷ 1 ∷ 1 ∷ 1 ∷ [])
-    ∷ accepts (plan Narrow Intersection (Of Univalents)) fewerRules fewer (0 ∷ 4 ∷ 9 ∷ 5 ∷ 2 ∷ 4 ∷ 3 ∷ []) (sheetBytes Narrow fewerLowered) (1 ∷ 0 ∷ 0 ∷ 1 ∷ 1 ∷ [])
-    ∷ accepts (plan Narrow Intersection (Of Univalents)) afterRules after (0 ∷ 0 ∷ 13 ∷ 7 ∷ 3 ∷ 4 ∷ 4 ∷ []) (sheetBytes Narrow afterUnivalents) (1 ∷ 1 ∷ 1 ∷ 1 ∷ [])
-    ∷ accepts (plan Narrow Intersection (Of Univalents)) restOutsideRules restOutside (4 ∷ 0 ∷ 11 ∷ 6 ∷ 3 ∷ 4 ∷ 3 ∷ []) (sheetBytes Narrow restOutsideLowered) (1 ∷ 1 ∷ 1 ∷ [])
-    ∷ accepts (plan Narrow Intersection (Of Univalents)) onTwoLiteralsRules onTwoLiterals (0 ∷ 0 ∷ 25 ∷ 13 ∷ 7 ∷ 6 ∷ 6 ∷ []) (sheetBytes Narrow onTwoLiteralsLowered) (1 ∷ 1 ∷ 1 ∷ 1 ∷ 1 ∷ 1 ∷ [])
-    ∷ accepts (plan Narrow Intersection (Of Univalents)) asRebuiltRules asRebuilt (0 ∷ 0 ∷ 17 ∷ 9 ∷ 4 ∷ 5 ∷ 5 ∷ []) (sheetBytes Narrow asRebuiltUnivalents) (1 ∷ 1 ∷ 1 ∷ 0 ∷ 1 ∷ 1 ∷ [])
-    ∷ accepts (plan Narrow Intersection (Of Univalents)) lacksItRules lacksIt (0 ∷ 0 ∷ 5 ∷ 3 ∷ 1 ∷ 3 ∷ 2 ∷ []) (sheetBytes Narrow lacksItUnivalents) (0 ∷ 0 ∷ 1 ∷ 0 ∷ 0 ∷ 1 ∷ 0 ∷ [])
-    ∷ accepts (plan Wide Intersection (Of Univalents)) highAfterRules highAfter (0 ∷ 0 ∷ 13 ∷ 7 ∷ 3 ∷ 4 ∷ 4 ∷ []) (sheetBytes Wide highAfterUnivalents) (1 ∷ 1 ∷ 1 ∷ 1 ∷ [])
+    accepts (plan Narrow Intersection (Of Univalents)) oppositesRules opposites (0 ∷ 0 ∷ 23 ∷ 12 ∷ 6 ∷ 6 ∷ 6 ∷ []) BottomUp (sheetBytes Narrow oppositesUnivalents) (1 ∷ 1 ∷ 1 ∷ 1 ∷ 1 ∷ 1 ∷ [])
+    ∷ accepts (plan Narrow Intersection (Of Univalents)) staysRules stays (0 ∷ 0 ∷ 23 ∷ 12 ∷ 6 ∷ 6 ∷ 6 ∷ []) BottomUp (sheetBytes Narrow staysUnivalents) (1 ∷ 1 ∷ 1 ∷ 1 ∷ 1 ∷ 1 ∷ [])
+    ∷ accepts (plan Narrow Intersection (Of Univalents)) fewerRules fewer (0 ∷ 4 ∷ 9 ∷ 5 ∷ 2 ∷ 4 ∷ 3 ∷ []) BottomUp (sheetBytes Narrow fewerLowered) (1 ∷ 0 ∷ 0 ∷ 1 ∷ 1 ∷ [])
+    ∷ accepts (plan Narrow Intersection (Of Univalents)) afterRules after (0 ∷ 0 ∷ 13 ∷ 7 ∷ 3 ∷ 4 ∷ 4 ∷ []) BottomUp (sheetBytes Narrow afterUnivalents) (1 ∷ 1 ∷ 1 ∷ 1 ∷ [])
+    ∷ accepts (plan Narrow Intersection (Of Univalents)) restOutsideRules restOutside (4 ∷ 0 ∷ 11 ∷ 6 ∷ 3 ∷ 4 ∷ 3 ∷ []) BottomUp (sheetBytes Narrow restOutsideLowered) (1 ∷ 1 ∷ 1 ∷ [])
+    ∷ accepts (plan Narrow Intersection (Of Univalents)) onTwoLiteralsRules onTwoLiterals (0 ∷ 0 ∷ 25 ∷ 13 ∷ 7 ∷ 6 ∷ 6 ∷ []) BottomUp (sheetBytes Narrow onTwoLiteralsLowered) (1 ∷ 1 ∷ 1 ∷ 1 ∷ 1 ∷ 1 ∷ [])
+    ∷ accepts (plan Narrow Intersection (Of Univalents)) asRebuiltRules asRebuilt (0 ∷ 0 ∷ 17 ∷ 9 ∷ 4 ∷ 5 ∷ 5 ∷ []) BottomUp (sheetBytes Narrow asRebuiltUnivalents) (1 ∷ 1 ∷ 1 ∷ 0 ∷ 1 ∷ 1 ∷ [])
+    ∷ accepts (plan Narrow Intersection (Of Univalents)) lacksItRules lacksIt (0 ∷ 0 ∷ 5 ∷ 3 ∷ 1 ∷ 3 ∷ 2 ∷ []) BottomUp (sheetBytes Narrow lacksItUnivalents) (0 ∷ 0 ∷ 1 ∷ 0 ∷ 0 ∷ 1 ∷ 0 ∷ [])
+    ∷ accepts (plan Wide Intersection (Of Univalents)) highAfterRules highAfter (0 ∷ 0 ∷ 13 ∷ 7 ∷ 3 ∷ 4 ∷ 4 ∷ []) BottomUp (sheetBytes Wide highAfterUnivalents) (1 ∷ 1 ∷ 1 ∷ 1 ∷ [])
     ∷ []
 
 abbrev pub LoweredUnivalents : Type 0

@@ -8,6 +8,7 @@ use Rattle.sheet.specs.Records.{given, step, Record, node, drop}
 use Rattle.sheet.specs.Fields.{sheetBytes}
 use Rattle.press_spec.specs.declared.Recycling.{Recycling}
 use Rattle.press_spec.specs.declared.Lowering.the-variants.{Nothing}
+use Rattle.press_spec.specs.declared.Order.the-variants.{BottomUp}
 use Rattle.press_spec.specs.Plans.{plan}
 use Rattle.demands.specs.Cases.{Case, presses, replays, accepts, refuses, replayed, ruleTable, junk, clean, allRight}
 use Rattle.demands.specs.Starred.{loneRules, lone, lonePressed}
@@ -164,11 +165,11 @@ highBothWaysRules = literals (1 + 2 ^ 100) (2 ^ 100) ∷ []
 
 unfoldable pub wide : Recycling → List Case
 wide how =
-    accepts (plan Wide how Nothing) pivot127Rules pivot127 (0 ∷ 0 ∷ 5 ∷ 3 ∷ 1 ∷ 3 ∷ 2 ∷ []) (sheetBytes Wide pivot127Pressed) (1 ∷ 1 ∷ [])
-    ∷ accepts (plan Wide how Nothing) highIrregularRules highIrregular (0 ∷ 0 ∷ 9 ∷ 5 ∷ 2 ∷ 3 ∷ 3 ∷ []) (sheetBytes Wide highIrregularPressed) (1 ∷ 0 ∷ 1 ∷ 1 ∷ 0 ∷ [])
-    ∷ accepts (plan Wide how Nothing) highKeptRules highKept ((2 ^ 64 + 2 ^ 127) ∷ 0 ∷ 5 ∷ 3 ∷ 1 ∷ 3 ∷ 2 ∷ []) (sheetBytes Wide highKeptPressed) (1 ∷ 1 ∷ [])
-    ∷ accepts (plan Wide how Nothing) highOneWayRules highOneWay ((2 ^ 36) ∷ (2 ^ 100) ∷ 1 ∷ 1 ∷ 0 ∷ 1 ∷ 1 ∷ []) (sheetBytes Wide highOneWayPressed) (1 ∷ [])
-    ∷ accepts (plan Wide how Nothing) eitherEditionRules eitherEdition ((2 ^ 64 + 2 ^ 112 + 2 ^ 115) ∷ 0 ∷ 1 ∷ 1 ∷ 0 ∷ 1 ∷ 1 ∷ []) (sheetBytes Wide eitherEditionPressed) (0 ∷ 0 ∷ 0 ∷ 0 ∷ 1 ∷ [])
+    accepts (plan Wide how Nothing) pivot127Rules pivot127 (0 ∷ 0 ∷ 5 ∷ 3 ∷ 1 ∷ 3 ∷ 2 ∷ []) BottomUp (sheetBytes Wide pivot127Pressed) (1 ∷ 1 ∷ [])
+    ∷ accepts (plan Wide how Nothing) highIrregularRules highIrregular (0 ∷ 0 ∷ 9 ∷ 5 ∷ 2 ∷ 3 ∷ 3 ∷ []) BottomUp (sheetBytes Wide highIrregularPressed) (1 ∷ 0 ∷ 1 ∷ 1 ∷ 0 ∷ [])
+    ∷ accepts (plan Wide how Nothing) highKeptRules highKept ((2 ^ 64 + 2 ^ 127) ∷ 0 ∷ 5 ∷ 3 ∷ 1 ∷ 3 ∷ 2 ∷ []) BottomUp (sheetBytes Wide highKeptPressed) (1 ∷ 1 ∷ [])
+    ∷ accepts (plan Wide how Nothing) highOneWayRules highOneWay ((2 ^ 36) ∷ (2 ^ 100) ∷ 1 ∷ 1 ∷ 0 ∷ 1 ∷ 1 ∷ []) BottomUp (sheetBytes Wide highOneWayPressed) (1 ∷ [])
+    ∷ accepts (plan Wide how Nothing) eitherEditionRules eitherEdition ((2 ^ 64 + 2 ^ 112 + 2 ^ 115) ∷ 0 ∷ 1 ∷ 1 ∷ 0 ∷ 1 ∷ 1 ∷ []) BottomUp (sheetBytes Wide eitherEditionPressed) (0 ∷ 0 ∷ 0 ∷ 0 ∷ 1 ∷ [])
     ∷ refuses (plan Wide how Nothing) pivot127Rules pivot128 8 2
     ∷ replayed Wide (sheetBytes Wide pivot128) pivot127Rules 3 (8 ∷ 2 ∷ [])
     ∷ refuses (plan Wide how Nothing) highKeptRules highLost 12 2
@@ -185,7 +186,7 @@ wide how =
     ∷ replayed Wide (sheetBytes Wide pivot127Pressed) pivot127Rules 2 (15 ∷ 2 ∷ [])
     ∷ replayed Wide (sheetBytes Wide highIrregularPressed) highIrregularRules 3 (0 ∷ 0 ∷ 5 ∷ 2 ∷ 3 ∷ [])
     ∷ replayed Wide (sheetBytes Wide highIrregularPressed) highIrregularRules 2 (15 ∷ 2 ∷ [])
-    ∷ accepts (plan Wide how Nothing) loneRules lone (1 ∷ 0 ∷ 1 ∷ 1 ∷ 0 ∷ 1 ∷ 1 ∷ []) (sheetBytes Wide lonePressed) (1 ∷ [])
+    ∷ accepts (plan Wide how Nothing) loneRules lone (1 ∷ 0 ∷ 1 ∷ 1 ∷ 0 ∷ 1 ∷ 1 ∷ []) BottomUp (sheetBytes Wide lonePressed) (1 ∷ [])
     ∷ presses (plan Wide how Nothing) (sheetBytes Wide lone) (ruleTable Wide loneRules) 39 1 (5 ∷ 0 ∷ []) (junk 39) (junk 1)
     ∷ presses (plan Wide how Nothing) (sheetBytes Wide highIrregular) (ruleTable Wide highIrregularRules) 679 5 (5 ∷ 0 ∷ []) (junk 679) (junk 5)
     ∷ replayed Wide (sheetBytes Wide eitherEdition) eitherEditionRules 5 ((2 ^ 64 + 2 ^ 112 + 2 ^ 115) ∷ 0 ∷ 3 ∷ 0 ∷ 3 ∷ [])
