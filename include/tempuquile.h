@@ -69,9 +69,13 @@ extern "C" {
 #define TEMPUQUILE_FULL 15             /* replay: a node record, and every slot holds a node */
 #define TEMPUQUILE_NOT_HELD 16         /* replay: at the end the last node isn't held */
 
+/* The orders in which a press may write. */
+#define TEMPUQUILE_BOTTOM_UP 0
+#define TEMPUQUILE_TOP_DOWN 1
+
 /*
  * The words of a press's report. A set is two words: bit v of the low one is variable v, bit v of the high one variable 64 + v. In the
- * narrow edition the high words are 0.
+ * narrow edition the high words are 0. The last word is the order of the records that are written.
  */
 #define TEMPUQUILE_PRESS_RECORD 0
 #define TEMPUQUILE_PRESS_POSITIVE 1
@@ -83,7 +87,8 @@ extern "C" {
 #define TEMPUQUILE_PRESS_MARKED 7
 #define TEMPUQUILE_PRESS_POSITIVE_HIGH 8
 #define TEMPUQUILE_PRESS_NEGATIVE_HIGH 9
-#define TEMPUQUILE_PRESS_WORDS 10
+#define TEMPUQUILE_PRESS_ORDER 10
+#define TEMPUQUILE_PRESS_WORDS 11
 
 /* The words of a replay's report. */
 #define TEMPUQUILE_REPLAY_RECORD 0
@@ -128,7 +133,8 @@ TEMPUQUILE_HOLDS(sizeof(size_t) == 8);
  * Presses `sheet` against the rule table `rules`, both of `edition`, by `recycling` and `lowering`.
  *
  * Accepted: `out` starts with the pressed sheet, of the same edition, 24 or 40 bytes for each of the records reported, and is untouched
- * beyond; `marks` starts with 1 or 0 for each rule line, and is untouched beyond. Refused: neither is changed.
+ * beyond; `marks` starts with 1 or 0 for each rule line, and is untouched beyond. Of two orders, bottom-up and top-down, the sheet is in
+ * the one with the smaller peak; if the peaks are equal, bottom-up. Refused: neither is changed.
  */
 uint32_t tempuquile_press(uint32_t edition, uint32_t recycling, uint32_t lowering, const uint8_t *sheet, size_t sheet_len,
                           const uint8_t *rules, size_t rules_len, uint8_t *out, size_t out_len, uint8_t *marks, size_t marks_len,

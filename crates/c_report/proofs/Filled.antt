@@ -10,6 +10,9 @@ use Rattle.clause.specs.Denote.{literalsOf, ClauseFits}
 use Rattle.sheet.specs.declared.Reason.{Reason}
 use Rattle.sheet.specs.declared.RecordNo.{RecordNo}
 use Rattle.sheet.specs.Reasons.{numberOf}
+use Rattle.press_spec.specs.declared.Order.{Order}
+use Rattle.press_spec.specs.declared.Order.the-variants.{BottomUp, TopDown}
+use Rattle.press_spec.specs.Better.{orderNumber}
 use Rattle.press_write.specs.declared.Pressed.{Pressed}
 use Rattle.press.specs.declared.PressAnswer.{PressAnswer}
 use Rattle.press.specs.declared.PressAnswer.the-variants.{Accepted, Refused}
@@ -52,23 +55,36 @@ module _ (c : Clause) (fits : ClauseFits c) where
   unfolding highWord
   negative-high = high (c .negative .high) 64 (fits .1 .0)
 
+-- ---- the order
+
+module _ (which : Order) where
+  pub old-number : which ≡ BottomUp → 0 ≡ orderNumber which
+  unfolding orderNumber
+  old-number e = rw e
+
+  pub new-number : which ≡ TopDown → 1 ≡ orderNumber which
+  unfolding orderNumber
+  new-number e = rw e
+
 -- ---- what is told
 
-pub told-accepted : (a : PressAnswer) (done : Pressed) (r r₁ r₂ r₃ : List ℕ) → a ≡ Accepted done → ClauseFits (done .conclusion)
+pub told-accepted : (a : PressAnswer) (done : Pressed) (n : ℕ) (r r₁ r₂ r₃ r₄ : List ℕ) → a ≡ Accepted done → ClauseFits (done .conclusion)
     → r₁ ≡ fill 0 (0 ∷ done .conclusion .positive .low ∷ done .conclusion .negative .low ∷ done .records ∷ []) r
     → r₂ ≡ fill 4 (done .nodes ∷ done .steps ∷ done .peak ∷ done .marked ∷ []) r₁
     → r₃ ≡ fill 8 (done .conclusion .positive .high ∷ done .conclusion .negative .high ∷ []) r₂
-    → (0 ≡ pressCode (said a)) × (r₃ ≡ fill 0 (pressWords (said a)) r)
+    → n ≡ orderNumber (done .order)
+    → r₄ ≡ set r₃ 10 n
+    → (0 ≡ pressCode (said a)) × (r₄ ≡ fill 0 (pressWords (said a)) r)
 unfolding fill pressCode pressWords said
-told-accepted a done r r₁ r₂ r₃ q h e f g =
+told-accepted a done n r r₁ r₂ r₃ r₄ q h e f g o k =
     let c = done .conclusion in
-    (rw q, rw (g, f, e, q, positive-low c h, negative-low c h, positive-high c h, negative-high c h))
+    (rw q, rw (k, o, g, f, e, q, positive-low c h, negative-low c h, positive-high c h, negative-high c h))
 
-pub told-refused : (a : PressAnswer) (why : Reason) (k : RecordNo) (code : ℕ) (r r₁ r₂ r₃ : List ℕ) → a ≡ Refused why k → code ≡ numberOf why
-    → r₁ ≡ fill 0 (k .0 ∷ 0 ∷ 0 ∷ 0 ∷ []) r → r₂ ≡ fill 4 (0 ∷ 0 ∷ 0 ∷ 0 ∷ []) r₁ → r₃ ≡ fill 8 (0 ∷ 0 ∷ []) r₂
-    → (code ≡ pressCode (said a)) × (r₃ ≡ fill 0 (pressWords (said a)) r)
+pub told-refused : (a : PressAnswer) (why : Reason) (k : RecordNo) (code : ℕ) (r r₁ r₂ r₃ r₄ : List ℕ) → a ≡ Refused why k → code ≡ numberOf why
+    → r₁ ≡ fill 0 (k .0 ∷ 0 ∷ 0 ∷ 0 ∷ []) r → r₂ ≡ fill 4 (0 ∷ 0 ∷ 0 ∷ 0 ∷ []) r₁ → r₃ ≡ fill 8 (0 ∷ 0 ∷ []) r₂ → r₄ ≡ set r₃ 10 0
+    → (code ≡ pressCode (said a)) × (r₄ ≡ fill 0 (pressWords (said a)) r)
 unfolding fill pressCode pressWords said
-told-refused a why k code r r₁ r₂ r₃ q n e f g = (rw (n, q), rw (g, f, e, q))
+told-refused a why k code r r₁ r₂ r₃ r₄ q n e f g o = (rw (n, q), rw (o, g, f, e, q))
 
 pub replay-accepted : (a : ReplayAnswer) (done : Replayed) (r r₁ r₂ : List ℕ) → a ≡ A.Accepted done → ClauseFits (done .conclusion)
     → r₁ ≡ fill 0 (0 ∷ done .conclusion .positive .low ∷ done .conclusion .negative .low ∷ done .nodes ∷ []) r

@@ -3,6 +3,7 @@ use Prim.Native.Nat.{ℕ, suc, _/_, _%_, _^_}
 use mathlib.Core.List.{List, [], _∷_}
 use lib.ListN.{set}
 use Rattle.clause.specs.Denote.{word}
+use Rattle.press_spec.specs.Better.{orderNumber}
 use Rattle.press_spec.specs.Press.{Answer, refused, accepted}
 use Rattle.replay_spec.specs.Replay as R
 
@@ -22,10 +23,10 @@ lowWord s = s % 2 ^ word
 unfoldable pub highWord : ℕ → ℕ
 highWord s = s / 2 ^ word
 
--- record, positive, negative, records, nodes, steps, peak, marked, and the high words of the two sets: on a refusal all but the first are 0, on acceptance
--- the first is
+-- record, positive, negative, records, nodes, steps, peak, marked, the high words of the two sets, and the number of the order: on a refusal all but the
+-- first are 0, on acceptance the first is
 unfoldable pub pressWords : Answer → List ℕ
-pressWords (refused why k) = k ∷ 0 ∷ 0 ∷ 0 ∷ 0 ∷ 0 ∷ 0 ∷ 0 ∷ 0 ∷ 0 ∷ []
+pressWords (refused why k) = k ∷ 0 ∷ 0 ∷ 0 ∷ 0 ∷ 0 ∷ 0 ∷ 0 ∷ 0 ∷ 0 ∷ 0 ∷ []
 pressWords (accepted r) =
     0
     ∷ lowWord (r .conclusion .positive)
@@ -37,6 +38,7 @@ pressWords (accepted r) =
     ∷ r .marked
     ∷ highWord (r .conclusion .positive)
     ∷ highWord (r .conclusion .negative)
+    ∷ orderNumber (r .order)
     ∷ []
 
 unfoldable pub replayCode : R.Answer → ℕ

@@ -3,10 +3,12 @@ ghost use mathlib.Core.Path.{_≡_};
 ghost use mathlib.Core.List.{[], _∷_};
 ghost use Prim.Native.Nat.{_<_};
 ghost use lib.ListN.{set};
+ghost use Rattle.press_spec.specs.Better.{orderNumber};
 ghost use Rattle.press.specs.Said.{said};
 ghost use Rattle.replay_answer.specs.Answers.{said as saidOfReplay};
 ghost use Rattle.c_report.specs.Report.{fill, pressCode, pressWords, replayCode, replayWords};
 use press::PressAnswer;
+use press_spec::Order;
 use replay_answer::ReplayAnswer;
 
 pub mod named;
@@ -38,6 +40,15 @@ fn put_four(report: &mut [u64], i: usize, a: u64, b: u64, c: u64, d: u64)
     put_two(report, i + 2, c, d);
 }
 
+fn order_number(order: Order) -> u64
+    ensures { λ r. ⌜ r ≡ orderNumber order ⌝ }
+{
+    match order {
+        Order::BottomUp => 0,
+        Order::TopDown => 1,
+    }
+}
+
 // What is said of a press.
 pub fn tell_press(answer: PressAnswer, report: &mut [u64]) -> u32
     ensures code { λ r. ⌜ r ≡ pressCode (said answer) ⌝ }
@@ -65,12 +76,15 @@ pub fn tell_press(answer: PressAnswer, report: &mut [u64]) -> u32
                 done.marked as u64,
             );
             put_two(report, 8, positive.high, negative.high);
+            let order = done.order;
+            put(report, 10, order_number(order));
             0
         }
         PressAnswer::Refused(why, k) => {
             put_four(report, 0, k.0 as u64, 0, 0, 0);
             put_four(report, 4, 0, 0, 0, 0);
             put_two(report, 8, 0, 0);
+            put(report, 10, 0);
             sheet::number_of(why)
         }
     }
