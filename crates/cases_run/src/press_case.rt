@@ -1,6 +1,7 @@
 // A case of the press: its answer; where it is accepted, the output and the marks; and whether the bytes beyond them, or where it is refused
 // all of them, are as they were.
 use press::PressAnswer;
+use press_spec::Order;
 use press_spec::Plan;
 use press_write::Pressed;
 use sheet::edition::Edition;
@@ -37,6 +38,13 @@ fn print_beyond(out: &[u8], marks: &[u8]) {
     }
 }
 
+fn print_order(order: Order) {
+    match order {
+        Order::BottomUp => text::print(b" order bottom-up"),
+        Order::TopDown => text::print(b" order top-down"),
+    }
+}
+
 fn print_pressed(edition: Edition, p: Pressed) {
     text::print_ok(edition, p.conclusion);
     text::print_count(b" records ", p.records);
@@ -44,6 +52,8 @@ fn print_pressed(edition: Edition, p: Pressed) {
     text::print_count(b" steps ", p.steps);
     text::print_count(b" peak ", p.peak);
     text::print_count(b" marked ", p.marked);
+    let order = p.order;
+    print_order(order);
 }
 
 fn print_memory(edition: Edition, records: u16, lines: usize, out: &[u8], marks: &[u8]) {
