@@ -5,6 +5,7 @@ use crate::lent::Lent;
 use crate::library::{self, numbers, NO_EDITION, PRESS_WORDS, REPLAY_WORDS};
 use reference::cases::{draw, Case, Size};
 use reference::edition::Edition;
+use reference::passes::order::Order;
 use reference::plan::{Lowering, Plan, Recycling};
 use reference::press::{press, Pressed};
 use reference::refusal::Refusal;
@@ -27,6 +28,8 @@ pub struct Count {
     pub reset: usize,
     pub units: usize,
     pub univalents: usize,
+    /// How many of them came out in the top-down order.
+    pub top_down: usize,
 }
 
 /// The two words of a set, the variables under 64 in the first.
@@ -37,7 +40,7 @@ fn halves(set: u128) -> [u64; 2] {
 /// The words that a press's answer fills a report with.
 pub fn press_words(answer: &Result<Pressed, Refusal>) -> [u64; PRESS_WORDS] {
     match answer {
-        Err(refusal) => [refusal.record as u64, 0, 0, 0, 0, 0, 0, 0, 0, 0],
+        Err(refusal) => [refusal.record as u64, 0, 0, 0, 0, 0, 0, 0, 0, 0, 0],
         Ok(done) => {
             let [positive, positive_high] = halves(done.positive);
             let [negative, negative_high] = halves(done.negative);
@@ -52,6 +55,7 @@ pub fn press_words(answer: &Result<Pressed, Refusal>) -> [u64; PRESS_WORDS] {
                 done.marked as u64,
                 positive_high,
                 negative_high,
+                done.order.number().into(),
             ]
         }
     }
@@ -252,6 +256,7 @@ pub fn case_alike(seed: u64, index: u64, count: &mut Count) -> Result<(), Differ
                     count.reset += usize::from(plan.recycling == Recycling::Reset);
                     count.units += usize::from(plan.lowering == Lowering::Units);
                     count.univalents += usize::from(plan.lowering == Lowering::Univalents);
+                    count.top_down += usize::from(done.order == Order::TopDown);
                 }
             }
         }

@@ -47,7 +47,7 @@ pub struct Slot {
 }
 
 /// The words of a report: of a press, of a replay.
-pub const PRESS_WORDS: usize = 10;
+pub const PRESS_WORDS: usize = 11;
 pub const REPLAY_WORDS: usize = 8;
 
 /// `TEMPUQUILE_NO_EDITION`: the answer to a number that names no edition.

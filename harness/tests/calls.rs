@@ -12,6 +12,7 @@ use reference::plan::Plan;
 use reference::plan::Recycling::{self, Intersection, Reset};
 use reference::rng::Rng;
 use reference::sheets::lowering::{everywhere, sharper, stays};
+use reference::sheets::orders::{early_given, equal_peaks, high_left_givens, left_givens};
 use reference::sheets::recycling::{all_allow, reset_shorter};
 use reference::sheets::univalents::{after, as_rebuilt, high_after};
 use reference::sheets::Worked;
@@ -29,6 +30,7 @@ fn random_cases_are_alike() {
     for some in [count.units, count.univalents] {
         assert!((25..42).contains(&share(some)));
     }
+    assert!((4..12).contains(&share(count.top_down)));
 }
 
 /// How many steps are left of a good sheet.
@@ -117,7 +119,7 @@ fn a_report_holds_as_many_words_as_fit() {
 #[test]
 fn the_pair_comes_out_as_document_01_has_it() {
     let pair = &sheets::all(Plan::PROGRAM)[0];
-    let (mut out, mut marks, mut report) = ([0xA5; 130], [0xA5; 3], [7; 11]);
+    let (mut out, mut marks, mut report) = ([0xA5; 130], [0xA5; 3], [7; 12]);
     let (sheet, rules) = (&pair.sheet, &pair.rules);
     let numbers = numbers(pair.plan);
     let code = library::press(numbers, sheet, rules, &mut out, &mut marks, &mut report);
@@ -131,7 +133,32 @@ fn the_pair_comes_out_as_document_01_has_it() {
     expected[96] = 3;
     assert_eq!((code, out), (0, expected));
     assert_eq!(marks, [1, 1, 0xA5]);
-    assert_eq!(report, [0, 0, 0, 5, 3, 1, 3, 2, 0, 0, 7]);
+    assert_eq!(report, [0, 0, 0, 5, 3, 1, 3, 2, 0, 0, 0, 7]);
+}
+
+/// "the answer says which it was": 1 is the top-down order, which is emitted only
+/// where it has the smaller peak.
+#[test]
+fn the_last_word_says_which_order_it_was() {
+    for (worked, peak, order) in [
+        (left_givens(), 3, 1),
+        (high_left_givens(), 3, 1),
+        (equal_peaks(), 3, 0),
+        (early_given(), 3, 0),
+    ] {
+        let (sheet, rules) = worked.bytes();
+        let (mut out, mut marks) = (vec![0; 2 * sheet.len()], [0; 5]);
+        let (mut report, plan) = ([7; PRESS_WORDS], worked.plan(Intersection, Nothing));
+        let code = library::press(
+            numbers(plan),
+            &sheet,
+            &rules,
+            &mut out,
+            &mut marks,
+            &mut report,
+        );
+        assert_eq!((code, report[6], report[10]), (0, peak, order));
+    }
 }
 
 /// The library takes a row of n slots to be n times 40 bytes, in both editions:
