@@ -1,4 +1,6 @@
 // Numbers read from bytes and stored into them, the lowest byte first.
+#![tactic(auto)]
+
 ghost use Rattle.std.specs.Prelude.{◌≡◌, [], ◌∷◌, ◌+◌, ◌≤◌, max, length};
 ghost use Rattle.base.specs.Bytes.{value_at, bytes, put};
 

@@ -1,6 +1,8 @@
 // The C interface: the press and the replay with numbers, slices and references only, as include/tempuquile.h declares them. `edition` is 0
 // for the narrow edition and 1 for the wide one, `recycling` 0 for the reset and 1 for the intersection, `lowering` 0 for none, 1 for the
 // units and 2 for the univalents; any other edition is answered 255, any other recycling 254, any other lowering 253, and nothing is touched.
+#![tactic(auto)]
+
 ghost use Rattle.std.specs.Prelude.{◌≡◌};
 ghost use Rattle.press_spec.specs.Press.{call};
 ghost use Rattle.replay_slots.specs.Said.{row_of};

@@ -1,4 +1,6 @@
 // What is said of an answer: 0 or the refusal's number, and a lent row of words.
+#![tactic(auto)]
+
 ghost use Rattle.std.specs.Prelude.{◌≡◌, [], ◌∷◌, ◌<◌, set};
 ghost use Rattle.press_spec.specs.Better.{order_number};
 ghost use Rattle.press.specs.Said.{said};

@@ -2,6 +2,8 @@
 // and a second one could close what was opened since.
 
 // More turns than any run takes: no loop here goes on for ever.
+#![tactic(auto)]
+
 const TURNS: usize = 0x8000_0000_0000_0000;
 
 // How a file is opened: to be read, to be appended to, to be read and written, as one that is new, or emptied to be written.

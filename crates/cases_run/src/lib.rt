@@ -16,6 +16,7 @@
 //   14-15    bytes of the rule table that follow; the rest of it is zero
 //
 // Of a length beyond its limit the limit is taken. The stream ends where no whole case follows.
+#![tactic(auto)]
 
 mod press_case;
 mod replay_case;

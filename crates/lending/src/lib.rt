@@ -1,1 +1,2 @@
 // Laws for walks by hand of functions that are lent a row or a tally: no code.
+#![tactic(auto)]

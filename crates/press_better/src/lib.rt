@@ -1,4 +1,6 @@
 // 5, of two orders: "Work out both orders and emit the one with the smaller peak; equal: the old one."
+#![tactic(auto)]
+
 ghost use Rattle.std.specs.Prelude.{◌≡◌, List, ℕ, ◌≤◌, ◌<◌, length};
 ghost use Rattle.sheet.specs.Editions.{most_nodes};
 ghost use Rattle.press_spec.specs.Order.{order_from};

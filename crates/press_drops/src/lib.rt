@@ -1,5 +1,7 @@
 // 6. Drops: "Right after the record that uses a node last comes its drop; two drops go by rising number in the pressed sheet. The sink is
 // never dropped."
+#![tactic(auto)]
+
 ghost use Rattle.std.specs.Prelude.{◌≡◌, ◌<◌, min, max, length};
 ghost use Rattle.press_spec.specs.Drops.{with_drops};
 ghost use Rattle.press_nodes.specs.Tables.{links_in, nodes_in, Nodes};

@@ -1,4 +1,6 @@
 // The records of the pressed sheet, written one after another and tallied: the result has the "record count, node count, step count, peak".
+#![tactic(auto)]
+
 ghost use Rattle.std.specs.Prelude.{◌≡◌, [], ◌∷◌};
 ghost use Rattle.sheet.specs.Denote.{record_of};
 ghost use Rattle.press_emit.specs.Emission.{emission_of, emit_record, Roomy};

@@ -1,5 +1,7 @@
 // Judging: "Checks 1 to 5 come first, in number order, and report record 0. Then records in order: the first bad record answers",
 // with the first number that applies.
+#![tactic(auto)]
+
 ghost use Rattle.std.specs.Prelude.{◌≡◌, ◌*◌, ◌/◌, ◌≤◌, length};
 ghost use Rattle.sheet.specs.Editions.{record_bytes, press_records, capacity};
 ghost use Rattle.press_spec.specs.Judge.{sizes, check_room, check_press, judge};

@@ -1,5 +1,7 @@
 // Where each node is used last, found in one walk from the end. "Right after the record that uses a node last comes its drop": the drops and
 // the peak are read from this table.
+#![tactic(auto)]
+
 ghost use Rattle.std.specs.Prelude.{◌≡◌, ◌<◌, length};
 ghost use Rattle.sheet.specs.Editions.{capacity};
 ghost use Rattle.press_nodes.specs.Tables.{links_in, Links};

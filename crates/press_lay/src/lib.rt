@@ -1,5 +1,7 @@
 // 5. Order: the nodes laid out as they were placed, each under a new number. "Nodes are given and resolution records, numbered from 0 ..
 // Parents and drops name nodes."
+#![tactic(auto)]
+
 ghost use Rattle.std.specs.Prelude.{◌≡◌, List, ℕ, length};
 ghost use Rattle.press_nodes.specs.Tables.{clause_words, nodes_in, Nodes};
 ghost use Rattle.press_spec.specs.Order.{laid};

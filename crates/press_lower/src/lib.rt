@@ -1,4 +1,6 @@
 // Lowering (001), as an option after step 4: nodes with a literal each lose their uses, the rest is rebuilt, and they come back at the conclusion.
+#![tactic(auto)]
+
 ghost use Rattle.std.specs.Prelude.{◌≡◌, ◌≤◌, ◌<◌, length, take};
 ghost use Rattle.sheet.specs.Editions.{variables, most_nodes, capacity};
 ghost use Rattle.press_spec.specs.Rebuild.{built, ended};

@@ -1,4 +1,6 @@
 // "The core is the set of rule lines of the emitted given records." "Marks hold 1 or 0 for each rule line; bytes beyond are untouched."
+#![tactic(auto)]
+
 ghost use Rattle.std.specs.Prelude.{◌≡◌, ℕ, ◌<◌, ◌≤◌, length, get_or, replicate};
 ghost use Rattle.base.specs.Bytes.{put};
 ghost use Rattle.sheet.specs.Editions.{most_lines};

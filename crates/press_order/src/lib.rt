@@ -1,5 +1,7 @@
 // 5. Order (002, bottom-up pebbling, children heuristic): "Starting from the sink, the premises are placed first, then the node itself,
 // each node once."
+#![tactic(auto)]
+
 ghost use Rattle.std.specs.Prelude.{◌≡◌, cond, List, ◌∷◌, ℕ, ◌<◌, length, get_or};
 ghost use Rattle.sheet.specs.Editions.{capacity};
 ghost use Rattle.press_nodes.specs.Tables.{links_in, Links};

@@ -1,5 +1,7 @@
 // "How a sheet is pressed", of nodes that are judged proper, by the passes that the plan chooses: 1 the uses, 2 recycle, 3 rebuild, lowering if it is chosen, 4
 // and 5 the better order from the conclusion, in which the nodes are laid out, 6 write. The tables belong to these functions, and each pass is lent the part in use.
+#![tactic(auto)]
+
 ghost use Rattle.std.specs.Prelude.{◌≡◌, ◌≤◌, ◌<◌, length};
 ghost use Rattle.base.specs.Bytes.{put};
 ghost use Rattle.sheet.specs.Editions.{variables, most_nodes, capacity};

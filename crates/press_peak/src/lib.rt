@@ -1,4 +1,6 @@
 // The peak of nodes in their order, with no record written: what each node's drops let go is read from the table of last uses.
+#![tactic(auto)]
+
 ghost use Rattle.std.specs.Prelude.{◌≡◌, ◌+◌, ◌-◌, ◌<◌, length, drop as after};
 ghost use Rattle.press_spec.specs.Links.{link_at};
 ghost use Rattle.press_spec.specs.Drops.{drops_after};

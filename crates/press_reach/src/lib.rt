@@ -1,4 +1,6 @@
 // What recycling knows of a node on its way: it is reached if its fate is not `lost`, and its set S stands in a table of clauses.
+#![tactic(auto)]
+
 ghost use Rattle.std.specs.Prelude.{◌≡◌, suc, ◌≤◌, ◌<◌, length, get_or, set, replicate};
 ghost use Rattle.clause.specs.Denote.{literals_of};
 ghost use Rattle.press_spec.specs.Recycle.{unreached, reached};

@@ -1,4 +1,6 @@
 // 3. Rebuild, "rising numbers, reached nodes only. A given node stands for itself. A cut step is replaced by its kept parent's stand-in."
+#![tactic(auto)]
+
 ghost use Rattle.std.specs.Prelude.{◌≡◌, ◌<◌, length, set, get_or};
 ghost use Rattle.clause.specs.Clauses.{none};
 ghost use Rattle.clause.specs.Denote.{literals_of};

@@ -1,4 +1,6 @@
 // One record of the press: it is judged against the nodes before it, with the first number that applies, and stored.
+#![tactic(auto)]
+
 ghost use Rattle.std.specs.Prelude.{◌≡◌, ℕ, ◌<◌, ◌≤◌, List, length, take};
 ghost use Rattle.clause.specs.Denote.{literals_of};
 ghost use Rattle.sheet.specs.declared.edition.Edition.{Edition};

@@ -1,5 +1,7 @@
 // 2. Recycle pivots (000, algorithm 3): "From the sink down by number, each reached node has a set S. The sink is reached, and so is each
 // parent on an uncut edge of a reached step." The sink's S is its clause.
+#![tactic(auto)]
+
 ghost use Rattle.std.specs.Prelude.{◌≡◌, ℕ, suc, ◌≤◌, ◌<◌, length, get_or, set};
 ghost use Rattle.clause.specs.Denote.{width, literals_of};
 ghost use Rattle.press_spec.specs.Links.{sink};

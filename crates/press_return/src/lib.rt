@@ -1,5 +1,7 @@
 // The return of what was lowered: "in order of collection with literal l: if the conclusion lacks the opposite of l it stays; else if the rebuilt unit
 // lacks l, that unit becomes the conclusion; else resolve the two on l's variable .., the new step numbered above all so far."
+#![tactic(auto)]
+
 ghost use Rattle.std.specs.Prelude.{◌≡◌, ℕ, ◌≤◌, ◌<◌, length, get_or, set, take};
 ghost use Rattle.clause.specs.Denote.{literals_of};
 ghost use Rattle.sheet.specs.Editions.{capacity};

@@ -1,5 +1,7 @@
 // Nodes by score, in rows of bits. "take the one after which most nodes can be dropped at once; ties go to the smallest number": the first node of the
 // highest row that has one, found word by word and not node by node.
+#![tactic(auto)]
+
 ghost use Rattle.std.specs.Prelude.{◌≡◌, cond, ℕ, ◌≤◌, ◌<◌, length};
 ghost use Rattle.clause.specs.Sets.{with, without};
 ghost use Rattle.clause.specs.Denote.{word};

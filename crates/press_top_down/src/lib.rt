@@ -1,5 +1,7 @@
 // 5, a second order (002, top-down pebbling): "At each turn, of the unplaced nodes whose parents are all placed, take the one after which most
 // nodes can be dropped at once; ties go to the smallest number, as nodes were numbered when the order began."
+#![tactic(auto)]
+
 ghost use Rattle.std.specs.Prelude.{◌≡◌, List, ◌∷◌, ℕ, ◌+◌, ◌*◌, ◌≤◌, ◌<◌, length, get_or, set, replicate};
 ghost use Rattle.sheet.specs.Editions.{capacity};
 ghost use Rattle.press_spec.specs.Links.{link_at};

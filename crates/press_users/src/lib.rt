@@ -1,4 +1,6 @@
 // Which steps name a node, without a search: for each side the steps that have the node for their parent there form a chain, from the newest to the oldest.
+#![tactic(auto)]
+
 ghost use Rattle.std.specs.Prelude.{◌≡◌, ◌+◌, ◌<◌, length};
 ghost use Rattle.press_spec.specs.Links.{link_at};
 ghost use Rattle.press_nodes.specs.Tables.{links_in, Links};

@@ -1,4 +1,6 @@
 // 6: the nodes of the pressed sheet are written with their drops, the rule lines that they use are marked, and both are reported.
+#![tactic(auto)]
+
 ghost use Rattle.std.specs.Prelude.{◌≡◌};
 ghost use Rattle.base.specs.Bytes.{put};
 ghost use Rattle.sheet.specs.Fields.{sheet_bytes};

@@ -1,4 +1,6 @@
 // Files: one read to its end, and one put in the place of another.
+#![tactic(auto)]
+
 ghost use Rattle.std.specs.Prelude.{◌≤◌, length};
 ghost use Rattle.program_files.specs.Files.{Brings};
 

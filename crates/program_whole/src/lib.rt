@@ -1,4 +1,6 @@
 // "It judges a file by its whole length, however little of it fits in memory."
+#![tactic(auto)]
+
 ghost use Rattle.std.specs.Prelude.{◌≡◌, List, ℕ, ◌*◌, ◌≤◌, length};
 ghost use Rattle.sheet.specs.declared.edition.Edition.TheVariants.{Narrow};
 ghost use Rattle.sheet.specs.Editions.{record_bytes, line_bytes, press_records, table_lines};

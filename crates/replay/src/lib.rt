@@ -1,4 +1,6 @@
 // The controller's side: checks a sheet while holding only undropped clauses, in a lent row of slots.
+#![tactic(auto)]
+
 ghost use Rattle.std.specs.Prelude.{◌≡◌};
 ghost use Rattle.sheet.specs.Editions.{replay_records};
 ghost use Rattle.sheet.specs.Checks.{check_lengths};

@@ -1,4 +1,6 @@
 // The replay's answer, and the decisions of the whole replay, on values alone.
+#![tactic(auto)]
+
 ghost use Rattle.std.specs.Prelude.{◌≡◌};
 ghost use Rattle.tally.specs.Said.{tally_of};
 ghost use Rattle.replay_spec.specs.Slots.{last_of};

@@ -1,5 +1,7 @@
 // One record of the replay, on values alone: what it comes to, given the tally and what was found in the row. Whoever has the row and the tally
 // does no more than look, put and store.
+#![tactic(auto)]
+
 ghost use Rattle.std.specs.Prelude.{◌≡◌, ◌<◌, ◌≤◌};
 ghost use Rattle.sheet.specs.Editions.{most_records};
 ghost use Rattle.sheet.specs.Denote.{record_of, reading_of};

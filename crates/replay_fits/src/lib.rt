@@ -1,4 +1,6 @@
 // What the public step asks of its caller, and what it answers: whether it is lent what a replay has, and the verdict on what fits.
+#![tactic(auto)]
+
 ghost use Rattle.std.specs.Prelude.{◌≡◌};
 ghost use Rattle.tally.specs.Said.{tally_of};
 ghost use Rattle.replay_spec.specs.Step.{reached, fits, answered};

@@ -1,5 +1,7 @@
 // What stands after so many records: the last one's answer, the tally, and what one slot holds. A program that shows a replay record by
 // record asks for each slot after each record; the row and the tally are the function's own, and each record is lent to the one step.
+#![tactic(auto)]
+
 ghost use Rattle.std.specs.Prelude.{◌≡◌, ◌/◌, min, length, replicate};
 ghost use Rattle.sheet.specs.Editions.{record_bytes, most_records};
 ghost use Rattle.tally.specs.Tally.{nothing};

@@ -1,4 +1,6 @@
 // The lent row of slots: looked through, put into, freed and cleared here, and nowhere else.
+#![tactic(auto)]
+
 ghost use Rattle.std.specs.Prelude.{◌≡◌, set, get_or};
 ghost use Rattle.replay_spec.specs.Slots.{empty, put, look, cleared};
 ghost use Rattle.replay_slots.specs.Said.{slot_of, row_of, place_of, sought_of};

@@ -1,5 +1,7 @@
 // The records of the sheet, one after another: what a step does, again and again, with a tally of its own. Beside the answer it says what
 // the tally and the slots are where it stopped, so that a loop that idles would not do.
+#![tactic(auto)]
+
 ghost use Rattle.std.specs.Prelude.{◌≡◌, ◌/◌, length};
 ghost use Rattle.sheet.specs.declared.Verdict.TheVariants.{Fine};
 ghost use Rattle.sheet.specs.Editions.{record_bytes, replay_records};

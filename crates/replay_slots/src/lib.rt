@@ -1,4 +1,6 @@
 // What a step of the replay works on: slots, places in the row, and what is looked for and decided.
+#![tactic(auto)]
+
 ghost use Rattle.std.specs.Prelude.{◌≡◌, min};
 ghost use Rattle.clause.specs.Denote.{literals_of};
 ghost use Rattle.sheet.specs.Editions.{most_records};

@@ -1,4 +1,6 @@
 // What a record's bytes read as, and what is looked for in the row for it: no more than the record needs.
+#![tactic(auto)]
+
 ghost use Rattle.std.specs.Prelude.{◌≡◌, ◌≤◌, true, length};
 ghost use Rattle.sheet.specs.Editions.{record_bytes};
 ghost use Rattle.sheet.specs.Fields.{reading};

@@ -1,1 +1,2 @@
 // The definitions of the replay, and their laws: no code.
+#![tactic(auto)]

@@ -1,4 +1,6 @@
 // The public step: one record of the replay, over a lent row of slots and a running tally that is lent to each step and changed in place.
+#![tactic(auto)]
+
 ghost use Rattle.std.specs.Prelude.{◌≡◌};
 ghost use Rattle.tally.specs.Said.{tally_of};
 ghost use Rattle.replay_spec.specs.Step.{state, stepped, one_step};

@@ -1,4 +1,6 @@
 // One record of the replay that fits, over a lent row of slots and a lent tally, which are changed in place.
+#![tactic(auto)]
+
 ghost use Rattle.std.specs.Prelude.{◌≡◌, true, length};
 ghost use Rattle.tally.specs.Said.{tally_of};
 ghost use Rattle.replay_spec.specs.Step.{state, turn, judged, by_turn, fits};

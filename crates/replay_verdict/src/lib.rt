@@ -1,4 +1,6 @@
 // What is wrong with a record that reads (9 to 15), by what was found in the row.
+#![tactic(auto)]
+
 ghost use Rattle.std.specs.Prelude.{◌≡◌};
 ghost use Rattle.sheet.specs.Reasons.{and_then};
 ghost use Rattle.sheet.specs.Denote.{record_of};

@@ -1,4 +1,6 @@
 // The checks that press and replay share, each on values, in the order of the scope document.
+#![tactic(auto)]
+
 ghost use Rattle.std.specs.Prelude.{◌≡◌};
 ghost use Rattle.clause.specs.Denote.{literals_of};
 ghost use Rattle.sheet.specs.Checks.{check_table, check_lengths, check_earlier, check_result, check_step, check_one_way, check_given};

@@ -1,4 +1,6 @@
 // Reading a clause, and what it is read from: sets (sets.rt) and the lines of a rule table (lines.rt).
+#![tactic(auto)]
+
 ghost use Rattle.std.specs.Prelude.{◌≡◌, ◌+◌, ◌≤◌, length};
 ghost use Rattle.clause.specs.Denote.{literals_of};
 ghost use Rattle.sheet.specs.Editions.{line_bytes};

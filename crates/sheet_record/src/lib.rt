@@ -1,4 +1,6 @@
 // Reading a record: its fields by the columns of the scope document's table, then its kind (6), the bytes that must be zero (7), the pivot (8).
+#![tactic(auto)]
+
 ghost use Rattle.std.specs.Prelude.{◌≡◌, ◌≤◌, length};
 ghost use Rattle.sheet.specs.Editions.{record_bytes};
 ghost use Rattle.sheet.specs.Fields.{fields_of, read_given, read_step, read_drop, read_fields, reading};

@@ -1,4 +1,6 @@
 // Writing a record, by the columns of the scope document's table.
+#![tactic(auto)]
+
 ghost use Rattle.std.specs.Prelude.{◌≡◌, ◌+◌, ◌*◌, ◌≤◌, length};
 ghost use Rattle.base.specs.Bytes.{bytes, put};
 ghost use Rattle.clause.specs.Denote.{set_of, literals_of};

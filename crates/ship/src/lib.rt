@@ -1,4 +1,6 @@
 // The press and the replay tied together.
+#![tactic(auto)]
+
 ghost use Rattle.std.specs.Prelude.{◌≡◌};
 ghost use Rattle.press_spec.specs.Press.{call, press};
 ghost use Rattle.demands.specs.Shipping.{ship};

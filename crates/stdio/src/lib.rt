@@ -1,5 +1,7 @@
 // Standard input and standard output, as the programs use them. No contract can say what is read or printed: these functions are proved
 // safe and ending.
+#![tactic(auto)]
+
 ghost use Rattle.std.specs.Prelude.{◌≡◌, min};
 
 pub mod text;

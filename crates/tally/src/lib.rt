@@ -1,5 +1,7 @@
 // "One small running tally": next node, held, peak, steps. The replay keeps one and changes it record by record, and the press counts
 // what it writes with the same one.
+#![tactic(auto)]
+
 ghost use Rattle.std.specs.Prelude.{◌≡◌, ◌-◌, ◌<◌, ◌≤◌};
 ghost use Rattle.sheet.specs.Editions.{most_records};
 ghost use Rattle.sheet.specs.Denote.{record_of};

@@ -1,5 +1,7 @@
 // "A small program reads `rules.bin` and `sheet.bin`, presses, writes `pressed.bin` if accepted (else leaves that file alone), and prints one
 // line." All in the folder that it runs in, and of the narrow edition.
+#![tactic(auto)]
+
 use press::PressAnswer;
 use program_files::Length;
 use sheet::limits::TABLE_LINES;
