@@ -56,7 +56,7 @@ fn lowering_of(number: u32) -> Lowering
 }
 
 // A plan, or what is answered to numbers that name none.
-#[derive(Drop)]
+#[derive(Clone, Copy)]
 pub enum Naming {
     Named(Plan),
     Unnamed(u32),

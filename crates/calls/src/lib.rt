@@ -7,7 +7,7 @@
 const TURNS: usize = 0x8000_0000_0000_0000;
 
 // How a file is opened: to be read, to be appended to, to be read and written, as one that is new, or emptied to be written.
-#[derive(Drop)]
+#[derive(Clone, Copy)]
 pub enum How {
     Read,
     Append,

@@ -36,7 +36,7 @@ const RULES: usize = wide::LINE_BYTES * (TABLE_LINES + 1);
 // The bytes before those of the sheet.
 const HEADER: usize = 16;
 
-#[derive(Drop)]
+#[derive(Clone, Copy)]
 struct Header {
     kind: u8,
     edition: Edition,

@@ -15,7 +15,7 @@ use sheet::NodeNo;
 use sheet::limits::MOST_NODES;
 
 // Which of the two orders was taken, and how many nodes it has.
-#[derive(Drop)]
+#[derive(Clone, Copy)]
 pub struct Chosen {
     pub order: Order,
     pub nodes: u16,

@@ -10,7 +10,7 @@ use sheet::{Record, RecordNo};
 use tally::Tally;
 
 // The records written so far, in which edition, and the tally of them.
-#[derive(Drop)]
+#[derive(Clone, Copy)]
 pub struct Emitted {
     pub edition: Edition,
     pub records: u16,

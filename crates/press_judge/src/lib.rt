@@ -12,7 +12,7 @@ use sheet::edition::Edition;
 use sheet::{NodeNo, Reason, RecordNo, Verdict};
 
 // Every record is as it should be; or the first that is not, and why.
-#[derive(Drop)]
+#[derive(Clone, Copy)]
 pub enum Judgement {
     Proper,
     Bad(Reason, RecordNo),

@@ -8,7 +8,7 @@ ghost use Rattle.press_lowered.specs.Literals.{literal_in, Narrow};
 use clause::Clause;
 use press_reach::edges;
 
-#[derive(Drop)]
+#[derive(Clone, Copy)]
 pub enum Literal {
     Plus(u8),
     Minus(u8),

@@ -17,7 +17,7 @@ const VARIABLE_AT: u16 = 4;
 // How many numbers a byte has room for.
 const OF_ONE: u16 = 256;
 
-#[derive(Drop)]
+#[derive(Clone, Copy)]
 pub enum Lowered {
     Staying,
     With(Literal),

@@ -15,14 +15,14 @@ const CUT_LEFT: u8 = 2;
 const CUT_RIGHT: u8 = 3;
 
 // The edge of a step that is cut.
-#[derive(Drop)]
+#[derive(Clone, Copy)]
 pub enum Cut {
     Left,
     Right,
     None,
 }
 
-#[derive(Drop)]
+#[derive(Clone, Copy)]
 pub enum Fate {
     Lost,
     Kept(Cut),

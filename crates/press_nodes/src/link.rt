@@ -24,7 +24,7 @@ const GIVEN: u64 = 1;
 
 const STEP: u64 = 2;
 
-#[derive(Drop)]
+#[derive(Clone, Copy)]
 pub enum Link {
     Leaf(LineNo),
     Join {

@@ -15,7 +15,7 @@ use sheet::NodeNo;
 use sheet::limits::CAPACITY;
 
 // The premises of a step, as they are placed.
-#[derive(Drop)]
+#[derive(Clone, Copy)]
 struct Premises {
     first: NodeNo,
     second: NodeNo,

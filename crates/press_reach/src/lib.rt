@@ -14,7 +14,7 @@ use sheet::NodeNo;
 pub mod edges;
 pub mod fit;
 
-#[derive(Drop)]
+#[derive(Clone, Copy)]
 pub enum Reach {
     Unreached,
     Reached(Clause),

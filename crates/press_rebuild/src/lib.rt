@@ -19,7 +19,7 @@ use press_nodes::{clause_table, clear, fate, link, node};
 use sheet::NodeNo;
 
 // What becomes of a step.
-#[derive(Drop)]
+#[derive(Clone, Copy)]
 pub enum Way {
     TakeLeft,
     TakeRight,

@@ -20,13 +20,13 @@ use press_nodes::{clause_table, node};
 use sheet::NodeNo;
 
 // How many nodes of the tables are in use, and which of them is the conclusion.
-#[derive(Drop)]
+#[derive(Clone, Copy)]
 pub struct Ended {
     pub nodes: u16,
     pub last: NodeNo,
 }
 
-#[derive(Drop)]
+#[derive(Clone, Copy)]
 pub enum Return {
     ConclusionStays,
     UnitConcludes,

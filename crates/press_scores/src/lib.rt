@@ -22,7 +22,7 @@ const ROW_WORDS: usize = CAPACITY / WORD;
 pub const SCORE_WORDS: usize = 3 * ROW_WORDS;
 
 // The node that scores most, and its score.
-#[derive(Drop)]
+#[derive(Clone, Copy)]
 pub struct Best {
     pub node: NodeNo,
     pub score: u16,

@@ -25,7 +25,7 @@ const VARIABLE_AT: u16 = 8;
 const OF_ONE: u16 = 256;
 
 // There is no use, one, two or more that are all on one and the same literal, or two or more that are not.
-#[derive(Drop)]
+#[derive(Clone, Copy)]
 pub enum Used {
     Unused,
     Once(Literal),

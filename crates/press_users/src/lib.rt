@@ -10,7 +10,7 @@ use press_nodes::link::Link;
 use press_nodes::{clear, link};
 use sheet::NodeNo;
 
-#[derive(Drop)]
+#[derive(Clone, Copy)]
 pub enum Side {
     Left,
     Right,

@@ -17,7 +17,7 @@ use sheet::NodeNo;
 use sheet::edition::Edition;
 
 // "An accepted press returns .." these, beside output and marks.
-#[derive(Drop)]
+#[derive(Clone, Copy)]
 pub struct Pressed {
     pub conclusion: Clause,
     pub records: u16,

@@ -10,14 +10,14 @@ use calls::How;
 const LONGEST: usize = 0x8000_0000_0000_0000;
 
 // How long a file is, whatever of it was kept.
-#[derive(Drop)]
+#[derive(Clone, Copy)]
 pub enum Length {
     Whole(usize),
     Unreadable,
 }
 
 // What a read brought: no bytes at the end of the file.
-#[derive(Drop)]
+#[derive(Clone, Copy)]
 enum Brought {
     Bytes(usize),
     Failed,

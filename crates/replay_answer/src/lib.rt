@@ -14,7 +14,7 @@ use sheet::{NodeNo, Reason, RecordNo, Verdict};
 use tally::Tally;
 
 // "An accepted replay returns .." these.
-#[derive(Drop)]
+#[derive(Clone, Copy)]
 pub struct Replayed {
     pub conclusion: Clause,
     pub nodes: u16,
@@ -22,7 +22,7 @@ pub struct Replayed {
     pub peak: u16,
 }
 
-#[derive(Drop)]
+#[derive(Clone, Copy)]
 pub enum ReplayAnswer {
     Accepted(Replayed),
     Refused(Reason, RecordNo),

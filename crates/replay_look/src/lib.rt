@@ -15,7 +15,7 @@ use sheet::edition::Edition;
 use sheet::{RecordNo, SlotNo};
 use tally::Tally;
 
-#[derive(Drop)]
+#[derive(Clone, Copy)]
 pub struct Look {
     pub answer: StepAnswer,
     pub tally: Tally,

@@ -19,7 +19,7 @@ use sheet::edition::Edition;
 use sheet::{RecordNo, Verdict};
 use tally::Tally;
 
-#[derive(Drop)]
+#[derive(Clone, Copy)]
 pub struct Ran {
     pub answer: ReplayAnswer,
     pub tally: Tally,

@@ -15,7 +15,7 @@ use tally::Tally;
 // A slot of the row: a mark of use (not zero: in use), a node's number, and its clause's two sets. A free slot is all zero. Each of its
 // 40 bytes belongs to a field, so that zero fields are zero bytes; `in_use` and `holds` alone know that a node's number is wider here.
 #[repr(C)]
-#[derive(Drop)]
+#[derive(Clone, Copy)]
 pub struct Slot {
     pub used: u32,
     pub node: u32,
@@ -23,7 +23,7 @@ pub struct Slot {
 }
 
 // One record is taken, or refused, or lent with what no replay within its limit has.
-#[derive(Drop)]
+#[derive(Clone, Copy)]
 pub enum StepAnswer {
     Taken,
     Refused(Reason, RecordNo),
@@ -31,7 +31,7 @@ pub enum StepAnswer {
 }
 
 // What is looked for in the row: nothing, a free slot, or the one that holds a node.
-#[derive(Drop)]
+#[derive(Clone, Copy)]
 pub enum Sought {
     Nothing,
     Free,
@@ -39,14 +39,14 @@ pub enum Sought {
 }
 
 // A place in the row, with the slot that is found there or put there; or nowhere.
-#[derive(Drop)]
+#[derive(Clone, Copy)]
 pub enum Place {
     Nowhere,
     At(SlotNo, Slot),
 }
 
 // What a record comes to: what the checks say, the tally after it, and where a slot is put.
-#[derive(Drop)]
+#[derive(Clone, Copy)]
 pub struct Decided {
     pub verdict: Verdict,
     pub tally: Tally,

@@ -4,7 +4,7 @@ ghost use Rattle.sheet.specs.Editions.{variables, set_bytes, record_bytes, line_
 
 use crate::{RecordNo, narrow, wide};
 
-#[derive(Drop)]
+#[derive(Clone, Copy)]
 pub enum Edition {
     Narrow,
     Wide,

@@ -13,7 +13,7 @@ use replay_answer::ReplayAnswer;
 use sheet::{Reason, RecordNo};
 
 // The press refused; or what it reported, and what the replay of its output answered.
-#[derive(Drop)]
+#[derive(Clone, Copy)]
 pub enum Shipment {
     Refused(Reason, RecordNo),
     Tried(Pressed, ReplayAnswer),

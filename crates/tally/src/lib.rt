@@ -11,7 +11,7 @@ ghost use Rattle.tally.specs.Said.{tally_of};
 use sheet::Record;
 
 // The next node's number, the nodes held, the most held so far, the resolution records taken.
-#[derive(Drop)]
+#[derive(Clone, Copy)]
 pub struct Tally {
     pub next: u16,
     pub held: u16,

@@ -1,0 +1,7 @@
+use Rattle.clause.specs.Clauses.{common}
+use borrow.Author.Rules.{rules}
+use Rattle.clause.proofs.common.Goals as goal
+
+pub returns : goal.returns
+unfolding common
+returns c = simp (c.meet-positive.ensures, c.meet-negative.ensures)
