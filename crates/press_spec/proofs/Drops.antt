@@ -143,7 +143,7 @@ nodes-with_drops (x ∷ s) = simp (appended, nodes-after, nodes-with_drops s)
 dropped-with_drops : (s : List Node) (j : ℕ) → dropped j (with_drops s) ≡ min 1 (uses (links s) j)
 unfolding dropped with_drops uses
 dropped-with_drops [] j = omega arith
-dropped-with_drops (x ∷ s) j = rw dropped-append (omega (arith, dropped-after (link x) (links s) j, dropped-with_drops s j))
+dropped-with_drops (x ∷ s) j = rw (dropped-append j) (omega (arith, dropped-after (link x) (links s) j, dropped-with_drops s j))
 
 too_late-with_drops : (s : List Node) → too_late (with_drops s) ≡ 0
 unfolding with_drops too_late
