@@ -1,0 +1,14 @@
+use mathlib.Core.Path.{◌≡◌, ◌∙◌}
+use mathlib.Core.List.{◌++◌}
+use Prim.Native.Nat.{◌-◌, ◌≤◌}
+use native.Mathlib.Omega.{arith}
+use lib.ListN.{length, replicate, drop, length-set}
+use Rattle.base.proofs.Lists.{filled}
+use borrow.Author.Fill.{fill_more}
+use Rattle.press_nodes.proofs.clear.clear_numbers.Given as goal
+
+abbrev pub invariant-loop-k : goal.invariant-loop-k
+invariant-loop-k l = (l.k ≤ length l.initial.t) × (length l.t ≡ length l.initial.t) × (l.t ≡ replicate l.k 0 ++ drop l.k l.initial.t)
+
+abbrev pub decreases-loop-k : goal.decreases-loop-k
+decreases-loop-k l = length l.initial.t - l.k

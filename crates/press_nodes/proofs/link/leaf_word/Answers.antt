@@ -1,0 +1,6 @@
+use Rattle.press_nodes.proofs.Tables.{leaf-word}
+use borrow.Author.Rules.{rules}
+use Rattle.press_nodes.proofs.link.leaf_word.Goals as goal
+
+pub returns : goal.returns
+returns c = leaf-word _

@@ -1,0 +1,17 @@
+use Rattle.press_trim.proofs.Trims.{trim-long, trim-done}
+use Prim.Native.Nat.{◌≤◌}
+use mathlib.Core.Path.{◌≡◌, refl}
+use native.Mathlib.Omega.{arith}
+use lib.ListN.{length}
+use Rattle.base.specs.Folds.{fall}
+use Rattle.base.proofs.Folds.{fall-next}
+use Rattle.press_nodes.specs.Tables.{links_in}
+use Rattle.press_spec.specs.Trim.{trim_turn}
+use Rattle.press_trim.proofs.trim.trim.Given as goal
+
+abbrev pub invariant-loop-i : goal.invariant-loop-i
+invariant-loop-i l =
+    (l.i ≤ length l.links) × (length l.kept ≡ length l.links) × (fall (trim_turn (links_in l.links)) l.i l.kept ≡ fall (trim_turn (links_in l.links)) l.initial.i l.initial.kept)
+
+abbrev pub decreases-loop-i : goal.decreases-loop-i
+decreases-loop-i l = l.i
