@@ -145,11 +145,7 @@ fn overwrite<F: Write + Seek + OpenFile>(file: &mut F, bytes: &[u8]) -> bool {
 }
 
 // Writes the bytes over those of an open file, of which the first are kept in `old`. Where that fails they are put back.
-fn write_over<F: Read + Write + Seek + OpenFile>(
-    file: &mut F,
-    bytes: &[u8],
-    old: &mut [u8],
-) -> bool
+fn write_over<F: Read + Write + Seek + OpenFile>(file: &mut F, bytes: &[u8], old: &mut [u8]) -> bool
     requires { length old.old ≤ 65536 }
 {
     let found = read_to_end(file, old);
