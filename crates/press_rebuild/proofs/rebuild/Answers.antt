@@ -20,7 +20,7 @@ pub returns : goal.returns
 returns c = search rebuild-done
 
 pub rebuild_turn-requires-clause-clauses_len : goal.rebuild_turn-requires-clause-clauses_len
-rebuild_turn-requires-clause-clauses_len c = ?
+rebuild_turn-requires-clause-clauses_len c = (omega arith, search stand_ins-low)
 
 pub rebuild_turn-requires-clause-n_in_bounds : goal.rebuild_turn-requires-clause-n_in_bounds
-rebuild_turn-requires-clause-n_in_bounds c = ?
+rebuild_turn-requires-clause-n_in_bounds c = (omega arith, search link-sound, omega arith)

@@ -14,4 +14,6 @@ returns c = let s = c in
     node-renews _ _ _ _ _ _ _ _ _ (step-there _ _ _ _ _ _ s.requires.n_in_bounds.0 (found-join _ _ _ _ _ c.link_at-found.ensures c.in-Join.is)) c.renew_step.ensures
 
 pub renew_step-requires-clause-n_in_bounds : goal.renew_step-requires-clause-n_in_bounds
-renew_step-requires-clause-n_in_bounds c = ?
+renew_step-requires-clause-n_in_bounds c =
+    let o = rw (found-join _ _ _ _ _ c.link_at-found.ensures c.in-Join.is) at c.requires.n_in_bounds.1 in
+    (c.requires.n_in_bounds.0, omega arith, omega arith)
