@@ -17,7 +17,7 @@ loop-i-init c = (omega arith, omega arith, omega arith, refl, fated-start _ _ _ 
 
 pub loop-i-preserved : goal.loop-i-preserved
 loop-i-preserved c = let u = c.recycle_turn in
-    (omega arith, omega arith, omega arith, fall-next _ _ _ _ _ (omega arith) c.loop-i.invariant.3 u.ensures.0, u.ensures.1)
+    (omega arith, omega arith, omega arith, fall-next _ _ _ _ _ (omega arith) c.loop-i.invariant.3 u.ensures.reaches, u.ensures.fated)
 
 pub returns : goal.returns
 returns c = search fates-done
