@@ -1,0 +1,21 @@
+use Prim.Native.Nat.{◌≤◌}
+use mathlib.Core.Path.{◌≡◌, refl}
+use native.Mathlib.Omega.{arith}
+use lib.ListN.{length}
+use Rattle.base.specs.Folds.{fall}
+use Rattle.base.proofs.Folds.{fall-next}
+use Rattle.clause.specs.Denote.{literals_of}
+use Rattle.press_spec.specs.Lower.{lowered_ones}
+use Rattle.press_lowered.specs.Table.{low_in}
+use Rattle.press_units.specs.Turns.{collect_in}
+use Rattle.press_units.proofs.Collects.{collects-all}
+use borrow.Author.Rules.{rules}
+use Rattle.press_units.proofs.collect.collect_units.Goals as goal
+
+pub loop-i-preserved : goal.loop-i-preserved
+loop-i-preserved c = let v = c.loop-i.invariant in
+    (omega (arith, v.0), omega (arith, v.1), fall-next _ _ _ _ _ (omega arith) v.2 c.collect_turn-owed.ensures)
+
+pub returns : goal.returns
+returns c = let st = c in
+    collects-all _ _ _ st.args.low.now _ _ _ _ _ _ _ st.requires.clauses_len.2 st.requires.clauses_len.1 c.clear_numbers.ensures c.nothing-owed.ensures refl (omega arith) c.loop-i.invariant.2
