@@ -1,15 +1,12 @@
-use Prim.Native.Nat.{◌+◌, ◌-◌, ◌≤◌, ◌<◌}
-use mathlib.Core.Path.{◌≡◌, refl, ◌∙◌}
-use native.Mathlib.Omega.{arith}
+use Prim.Native.Nat.{◌≤◌, ◌<◌}
+use mathlib.Core.Path.{◌≡◌}
 use lib.ListN.{length, take}
 use Rattle.base.specs.Folds.{fall}
-use Rattle.base.proofs.Folds.{fall-next, fall-all}
-use Rattle.press_spec.specs.Rebuild.{built, stand_in, ended}
-use Rattle.press_spec.specs.Lower.{low_at, return_turn, come_back_all}
+use Rattle.press_spec.specs.Rebuild.{built}
+use Rattle.press_spec.specs.Lower.{low_at, return_turn}
 use Rattle.press_nodes.specs.Tables.{nodes_in}
 use Rattle.press_lowered.specs.Table.{low_in}
 use Rattle.press_return.specs.Returns.{ended_in}
-use Rattle.press_return.proofs.Walks.{room-left, walk-whole}
 use Rattle.press_return.proofs.come_back_all.Given as goal
 
 abbrev pub invariant-loop-i : goal.invariant-loop-i

@@ -1,11 +1,9 @@
 use mathlib.Core.Path.{ap, ◌∙◌}
-use native.Mathlib.Omega.{arith}
 use lib.ListN.{set}
 use Rattle.sheet.specs.Records.{Node}
 use Rattle.press_nodes.specs.Tables.{nodes_in}
 use Rattle.press_nodes.proofs.Tables.{clauses-at}
 use Rattle.press_return.proofs.Backs.{resolves-plus, resolves-minus}
-use borrow.Author.Rules.{rules}
 use Rattle.press_return.proofs.put_resolving.Goals as goal
 
 pub returns-in-Plus : goal.returns-in-Plus

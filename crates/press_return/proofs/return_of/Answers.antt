@@ -1,6 +1,5 @@
 use Rattle.press_spec.specs.Lower.{return_of}
 use Rattle.press_return.specs.Returns.{return_in}
-use borrow.Author.Rules.{rules}
 use Rattle.press_return.proofs.return_of.Goals as goal
 
 pub returns-then-holds-2 : goal.returns-then-holds-2

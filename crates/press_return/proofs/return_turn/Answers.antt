@@ -1,6 +1,5 @@
 use Prim.Native.Nat.{◌≤◌}
 use mathlib.Core.Path.{sym, subst, ◌∙◌}
-use native.Mathlib.Omega.{arith}
 use lib.ListN.{length}
 use Rattle.press_return.proofs.Backs.{found_back}
 use Rattle.press_spec.specs.Lower.{come_back}

@@ -4,7 +4,6 @@ use Rattle.base.specs.Bytes.{put}
 use Rattle.press_spec.specs.Drops.{total}
 use Rattle.press_emit.specs.Emission.{emission_of}
 use Rattle.press_write.proofs.Wholes.{all-written, all-reported, some-node, last-concludes, lines-below, same-core}
-use borrow.Author.Rules.{rules}
 use Rattle.press_write.proofs.write.Goals as goal
 
 pub overflow_sub-sink : goal.overflow_sub-sink

@@ -1,10 +1,8 @@
 use mathlib.Core.Path.{sym, ◌∙◌}
-use native.Mathlib.Omega.{arith}
 use Rattle.press_spec.specs.Lower.{opposite}
 use Rattle.clause.specs.Clauses.{adding}
 use Rattle.press_lowered.proofs.Searched.{opposite-narrow}
 use Rattle.press_units.proofs.Collects.{collect-few, collect-staying, found-narrow, collect-owed, collect-lowers}
-use borrow.Author.Rules.{rules}
 use Rattle.press_units.proofs.collect.collect_turn.Goals as goal
 
 pub returns-then-uses-i-lt-SEVERAL : goal.returns-then-uses-i-lt-SEVERAL

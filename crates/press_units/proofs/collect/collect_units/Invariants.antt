@@ -1,14 +1,11 @@
 use Prim.Native.Nat.{◌≤◌}
-use mathlib.Core.Path.{◌≡◌, refl}
-use native.Mathlib.Omega.{arith}
+use mathlib.Core.Path.{◌≡◌}
 use lib.ListN.{length}
 use Rattle.base.specs.Folds.{fall}
-use Rattle.base.proofs.Folds.{fall-next}
 use Rattle.clause.specs.Denote.{literals_of}
 use Rattle.press_spec.specs.Lower.{lowered_ones}
 use Rattle.press_lowered.specs.Table.{low_in}
 use Rattle.press_units.specs.Turns.{collect_in}
-use Rattle.press_units.proofs.Collects.{collects-all}
 use Rattle.press_units.proofs.collect.collect_units.Given as goal
 
 abbrev pub invariant-loop-i : goal.invariant-loop-i

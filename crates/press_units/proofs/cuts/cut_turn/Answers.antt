@@ -1,5 +1,4 @@
 use Rattle.press_units.proofs.Cuttings.{turn-past, turn-cuts}
-use borrow.Author.Rules.{rules}
 use Rattle.press_units.proofs.cuts.cut_turn.Goals as goal
 
 pub returns-then-fates-i-eq-LOST : goal.returns-then-fates-i-eq-LOST

@@ -1,14 +1,11 @@
 use Prim.Native.Nat.{◌-◌, ◌≤◌}
-use mathlib.Core.Path.{◌≡◌, refl}
-use native.Mathlib.Omega.{arith}
+use mathlib.Core.Path.{◌≡◌}
 use lib.ListN.{length}
 use Rattle.base.specs.Folds.{rise}
-use Rattle.base.proofs.Folds.{rise-next}
 use Rattle.press_spec.specs.Lower.{low_at}
 use Rattle.press_nodes.specs.Tables.{links_in}
 use Rattle.press_lowered.specs.Table.{low_in}
 use Rattle.press_units.specs.Turns.{cut_turn}
-use Rattle.press_units.proofs.Cuttings.{cuts-done}
 use Rattle.press_units.proofs.cuts.cut_uses.Given as goal
 
 abbrev pub invariant-loop-i : goal.invariant-loop-i

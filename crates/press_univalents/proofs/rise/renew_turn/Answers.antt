@@ -1,5 +1,4 @@
 use Rattle.press_univalents.proofs.Rises.{renew-past, renew-kept}
-use borrow.Author.Rules.{rules}
 use Rattle.press_univalents.proofs.rise.renew_turn.Goals as goal
 
 pub returns-then-kept-i-eq0 : goal.returns-then-kept-i-eq0

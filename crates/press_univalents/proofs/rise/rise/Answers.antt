@@ -1,17 +1,5 @@
-use Prim.Native.Nat.{◌-◌, ◌≤◌}
-use mathlib.Core.Path.{◌≡◌}
 use native.Mathlib.Omega.{arith}
-use lib.ListN.{length, replicate}
-use Rattle.base.specs.Folds.{rise}
-use Rattle.clause.specs.Denote.{literals_of}
-use Rattle.press_spec.specs.Rebuild.{built}
-use Rattle.press_spec.specs.Lower.{lowered_ones, none_lowered}
-use Rattle.press_spec.specs.Univalents.{risen_to, rise_turn}
-use Rattle.press_nodes.specs.Tables.{nodes_in}
-use Rattle.press_lowered.specs.Table.{low_in}
-use Rattle.press_used.specs.Table.{use_at}
 use Rattle.press_univalents.proofs.Rises.{rise-start, rising-low, rising-sound, rise-again, rise-low, rise-built}
-use borrow.Author.Rules.{rules}
 use Rattle.press_univalents.proofs.rise.rise.Goals as goal
 
 pub loop-i-init : goal.loop-i-init

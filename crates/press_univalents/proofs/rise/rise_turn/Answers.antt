@@ -1,6 +1,5 @@
 use native.Mathlib.Omega.{arith}
 use Rattle.press_univalents.proofs.Rises.{stands-low, rises-once}
-use borrow.Author.Rules.{rules}
 use Rattle.press_univalents.proofs.rise.rise_turn.Goals as goal
 
 pub weigh_turn-requires : goal.weigh_turn-requires

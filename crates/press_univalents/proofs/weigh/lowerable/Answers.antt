@@ -1,6 +1,5 @@
 use mathlib.Core.Path.{sym, ◌∙◌}
 use Rattle.press_univalents.proofs.Weighs.{literal-lacking, rest-outside, literal-owed, opposite-owed, nothing-owed}
-use borrow.Author.Rules.{rules}
 use Rattle.press_univalents.proofs.weigh.lowerable.Goals as goal
 
 pub returns-then-holds-2 : goal.returns-then-holds-2

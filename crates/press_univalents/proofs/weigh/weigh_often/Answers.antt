@@ -2,7 +2,6 @@ use mathlib.Core.Path.{sym, ◌∙◌}
 use native.Mathlib.Omega.{arith}
 use Rattle.press_lowered.proofs.Searched.{opposite-narrow}
 use Rattle.press_univalents.proofs.Weighs.{lowerable-narrow, weigh-lowers, weigh-stays}
-use borrow.Author.Rules.{rules}
 use Rattle.press_univalents.proofs.weigh.weigh_often.Goals as goal
 
 pub adding-requires : goal.adding-requires

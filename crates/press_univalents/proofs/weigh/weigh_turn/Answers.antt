@@ -1,6 +1,5 @@
 use Rattle.press_spec.specs.Univalents.{weigh}
 use Rattle.press_used.specs.Table.{use_in}
-use borrow.Author.Rules.{rules}
 use Rattle.press_univalents.proofs.weigh.weigh_turn.Goals as goal
 
 pub returns-in-Unused : goal.returns-in-Unused
