@@ -1,9 +1,14 @@
-// Calls of the system, each made again where a signal interrupts it. `close` is not among them: an interrupted close has closed the file,
-// and a second one could close what was opened since.
-
-// More turns than any run takes: no loop here goes on for ever.
+// Calls of the system over std, each made again where a signal interrupts it: `open` and `fsync` by std itself, `read` and `write` here. A file
+// is closed where it is dropped.
 #![tactic(auto)]
 
+ghost use Rattle.std.specs.Io.{ReadsAtMost, WritesAtMost};
+
+use std::fs::{Files, OpenFile, OpenOptions};
+use std::io::{Error, ErrorKind, Read, Write};
+use std::{fs, io, str};
+
+// More turns than any run takes: no loop here goes on for ever.
 const TURNS: usize = 0x8000_0000_0000_0000;
 
 // How a file is opened: to be read, to be appended to, to be read and written, as one that is new, or emptied to be written.
@@ -16,61 +21,64 @@ pub enum How {
     Emptied,
 }
 
-fn open_once(path: &[u8], how: How) -> i32 {
+fn options(how: How) -> OpenOptions {
+    let mut options = OpenOptions::new();
     match how {
-        How::Read => os::open_read(path),
-        How::Append => os::open_append(path),
-        How::Update => os::open_update(path),
-        How::New => os::create(path),
-        How::Emptied => os::open_overwrite(path),
-    }
+        How::Read => options.read(true),
+        How::Append => options.append(true),
+        How::Update => options.read(true).write(true),
+        How::New => options.write(true).create_new(true),
+        How::Emptied => options.write(true).create(true).truncate(true),
+    };
+    options
 }
 
-// A descriptor, or -1.
-pub fn open(path: &[u8], how: How) -> i32 {
+// std opens by names that are text.
+fn text(path: &[u8]) -> io::Result<&str> {
+    str::from_utf8(path).map_err(|_| Error::new(ErrorKind::InvalidInput, "the name is not UTF-8"))
+}
+
+pub fn open<R: Files>(rt: &R, path: &[u8], how: How) -> io::Result<R::File> {
+    options(how).open(rt, text(path)?)
+}
+
+// How many bytes were read, 0 at the end of the file.
+pub fn read<R: Read>(file: &mut R, buffer: &mut [u8]) -> io::Result<usize>
+    ensures { ReadsAtMost result buffer.new }
+{
     let mut turns = TURNS;
     while 0 < turns {
-        let fd = open_once(path, how);
-        if 0 <= fd || os::errno() != libc::EINTR {
-            return fd;
+        match file.read(buffer) {
+            Err(e) if e.kind() == ErrorKind::Interrupted => {}
+            got => return got,
         }
         turns -= 1;
     }
-    -1
+    Err(Error::from(ErrorKind::Interrupted))
 }
 
-// How many bytes were read, 0 at the end of the file, or -1.
-pub fn read(fd: i32, buffer: &mut [u8]) -> isize {
+// How many bytes were written.
+fn write<W: Write>(file: &mut W, bytes: &[u8]) -> io::Result<usize>
+    ensures { WritesAtMost result bytes.now }
+{
     let mut turns = TURNS;
     while 0 < turns {
-        let got = libc::read(fd, buffer);
-        if 0 <= got || os::errno() != libc::EINTR {
-            return got;
+        match file.write(bytes) {
+            Err(e) if e.kind() == ErrorKind::Interrupted => {}
+            put => return put,
         }
         turns -= 1;
     }
-    -1
-}
-
-// How many bytes were written, or -1.
-fn write(fd: i32, bytes: &[u8]) -> isize {
-    let mut turns = TURNS;
-    while 0 < turns {
-        let put = libc::write(fd, bytes);
-        if 0 <= put || os::errno() != libc::EINTR {
-            return put;
-        }
-        turns -= 1;
-    }
-    -1
+    Err(Error::from(ErrorKind::Interrupted))
 }
 
 // Whether all of the bytes were written.
-pub fn write_all(fd: i32, bytes: &[u8]) -> bool {
+pub fn write_all<W: Write>(file: &mut W, bytes: &[u8]) -> bool {
     let mut done = 0;
     while done < bytes.len() {
-        let left = &bytes[done..];
-        let put = io::count(write(fd, left), left);
+        let Ok(put) = write(file, &bytes[done..]) else {
+            return false;
+        };
         if put == 0 {
             return false;
         }
@@ -80,14 +88,22 @@ pub fn write_all(fd: i32, bytes: &[u8]) -> bool {
 }
 
 // Whether what was written is on the disk.
-pub fn fsync(fd: i32) -> bool {
-    let mut turns = TURNS;
-    while 0 < turns {
-        let status = libc::fsync(fd);
-        if 0 <= status || os::errno() != libc::EINTR {
-            return status == 0;
-        }
-        turns -= 1;
+pub fn fsync<F: OpenFile>(file: &F) -> bool {
+    file.sync_all().is_ok()
+}
+
+// Whether the file has the other name now, and what had it before is gone.
+pub fn rename<R: Files>(rt: &R, from: &[u8], to: &[u8]) -> bool {
+    match (text(from), text(to)) {
+        (Ok(from), Ok(to)) => fs::rename(rt, from, to).is_ok(),
+        _ => false,
     }
-    false
+}
+
+// Whether the name is gone.
+pub fn remove<R: Files>(rt: &R, path: &[u8]) -> bool {
+    match text(path) {
+        Ok(path) => fs::remove_file(rt, path).is_ok(),
+        Err(_) => false,
+    }
 }

@@ -5,9 +5,15 @@ ghost use Rattle.std.specs.Prelude.{◌≤◌, length};
 ghost use Rattle.program_files.specs.Files.{Brings};
 
 use calls::How;
+use std::fs::{Files, OpenFile};
+use std::io;
+use std::io::{ErrorKind, Read, Seek, Write};
 
 // No file is as long.
 const LONGEST: usize = 0x8000_0000_0000_0000;
+
+// So many bytes are read at a time of what does not fit the start.
+const PIECE: usize = 65536;
 
 // How long a file is, whatever of it was kept.
 #[derive(Clone, Copy)]
@@ -23,44 +29,44 @@ enum Brought {
     Failed,
 }
 
-fn bytes_of(got: isize, buffer: &[u8]) -> Brought
+fn bytes_of(got: io::Result<usize>, buffer: &[u8]) -> Brought
     requires { length buffer.now ≤ 65536 }
     ensures { Brings 65536 result }
 {
-    if got < 0 {
-        return Brought::Failed;
+    match got {
+        Ok(n) => Brought::Bytes(n.min(buffer.len())),
+        Err(_) => Brought::Failed,
     }
-    Brought::Bytes(io::count(got, buffer))
 }
 
 // A read of what does not fit the start any more: it is only counted.
-fn read_past(fd: i32) -> Brought
+fn read_past<F: Read>(file: &mut F) -> Brought
     ensures { Brings 65536 result }
 {
-    let mut rest = io::large_buffer();
-    let got = calls::read(fd, &mut rest);
+    let mut rest = [0u8; PIECE];
+    let got = calls::read(file, &mut rest);
     bytes_of(got, &rest)
 }
 
 // One read: into what is left of the start, and past it.
-fn read_some(fd: i32, start: &mut [u8], at: usize) -> Brought
+fn read_some<F: Read>(file: &mut F, start: &mut [u8], at: usize) -> Brought
     requires { length start.old ≤ 65536 }
     ensures { Brings 65536 result }
 {
     if start.len() <= at {
-        return read_past(fd);
+        return read_past(file);
     }
     let left = &mut start[at..];
-    let got = calls::read(fd, left);
+    let got = calls::read(file, left);
     bytes_of(got, left)
 }
 
-fn read_to_end(fd: i32, start: &mut [u8]) -> Length
+fn read_to_end<F: Read>(file: &mut F, start: &mut [u8]) -> Length
     requires { length start.old ≤ 65536 }
 {
     let mut length = 0;
     while length < LONGEST {
-        let more = read_some(fd, start, length);
+        let more = read_some(file, start, length);
         let Brought::Bytes(n) = more else {
             return Length::Unreadable;
         };
@@ -73,127 +79,117 @@ fn read_to_end(fd: i32, start: &mut [u8]) -> Length
 }
 
 // Reads the file to its end, and keeps as much of it as the start holds.
-pub fn read_file(path: &[u8], start: &mut [u8]) -> Length
+pub fn read_file<R: Files>(rt: &R, path: &[u8], start: &mut [u8]) -> Length
     requires { length start.old ≤ 65536 }
 {
-    let fd = calls::open(path, How::Read);
-    if fd < 0 {
+    let Ok(mut file) = calls::open(rt, path, How::Read) else {
         return Length::Unreadable;
-    }
-    let length = read_to_end(fd, start);
-    libc::close(fd);
-    length
+    };
+    read_to_end(&mut file, start)
 }
 
 // Whether there is no such file, or one that lets itself be written. It is opened to append, so none of its bytes change; fsync is refused
 // by what is no file, as a device.
-fn lets_itself_be_written(path: &[u8]) -> bool {
-    let fd = calls::open(path, How::Append);
-    if fd < 0 {
-        return os::errno() == libc::ENOENT;
+fn lets_itself_be_written<R: Files>(rt: &R, path: &[u8]) -> bool {
+    match calls::open(rt, path, How::Append) {
+        Ok(file) => calls::fsync(&file),
+        Err(e) => e.kind() == ErrorKind::NotFound,
     }
-    let is_file = calls::fsync(fd);
-    libc::close(fd);
-    is_file
 }
 
 // Writes the bytes into a file that was opened for them. They are on the disk before it is closed, so a close has nothing more to say.
-fn fill(fd: i32, bytes: &[u8]) -> bool {
-    let is_written = calls::write_all(fd, bytes) && calls::fsync(fd);
-    libc::close(fd);
-    is_written
+fn fill<F: Write + OpenFile + Drop>(mut file: F, bytes: &[u8]) -> bool {
+    calls::write_all(&mut file, bytes) && calls::fsync(&file)
 }
 
 // Makes a new file under the first of ten names that is not taken; the name's last byte is counted up. A file that has such a name is not
 // ours, and stays.
-fn make_part(name: &mut [u8]) -> i32 {
+fn make_part<R: Files>(rt: &R, name: &mut [u8]) -> Option<R::File> {
     if name.len() == 0 {
-        return -1;
+        return None;
     }
     let last = name.len() - 1;
     let mut digit = b'0';
     while digit <= b'9' {
         name[last] = digit;
-        let fd = calls::open(name, How::New);
-        if 0 <= fd || os::errno() != libc::EEXIST {
-            return fd;
+        match calls::open(rt, name, How::New) {
+            Ok(file) => return Some(file),
+            Err(e) if e.kind() == ErrorKind::AlreadyExists => {}
+            Err(_) => return None,
         }
         digit += 1;
     }
-    -1
+    None
 }
 
 // Writes the bytes into a new file, and leaves none where that fails.
-fn write_new(path: &[u8], bytes: &[u8]) -> bool {
-    let fd = calls::open(path, How::New);
-    if fd < 0 {
+fn write_new<R: Files>(rt: &R, path: &[u8], bytes: &[u8]) -> bool {
+    let Ok(file) = calls::open(rt, path, How::New) else {
         return false;
-    }
-    if fill(fd, bytes) {
+    };
+    if fill(file, bytes) {
         return true;
     }
-    os::unlink(path);
+    calls::remove(rt, path);
     false
 }
 
-fn put_start(fd: i32, bytes: &[u8]) -> bool {
-    libc::lseek(fd, 0, libc::SEEK_SET);
-    calls::write_all(fd, bytes)
+fn put_start<F: Write + Seek>(file: &mut F, bytes: &[u8]) -> bool {
+    let _ = file.rewind();
+    calls::write_all(file, bytes)
 }
 
 // Makes these bytes all that an open file has. What it had beyond them is cut off last, when they are on the disk.
-fn overwrite(fd: i32, bytes: &[u8]) -> bool {
-    put_start(fd, bytes) && calls::fsync(fd) && libc::ftruncate(fd, bytes.len() as i64) == 0
+fn overwrite<F: Write + Seek + OpenFile>(file: &mut F, bytes: &[u8]) -> bool {
+    put_start(file, bytes) && calls::fsync(file) && file.set_len(bytes.len() as u64).is_ok()
 }
 
 // Writes the bytes over those of an open file, of which the first are kept in `old`. Where that fails they are put back.
-fn write_over(fd: i32, bytes: &[u8], old: &mut [u8]) -> bool
+fn write_over<F: Read + Write + Seek + OpenFile>(file: &mut F, bytes: &[u8], old: &mut [u8]) -> bool
     requires { length old.old ≤ 65536 }
 {
-    let found = read_to_end(fd, old);
+    let found = read_to_end(file, old);
     let Length::Whole(length) = found else {
         return false;
     };
-    if overwrite(fd, bytes) {
+    if overwrite(file, bytes) {
         return true;
     }
     if length < old.len() {
-        overwrite(fd, &old[..length]);
+        overwrite(file, &old[..length]);
     } else {
-        put_start(fd, old);
+        put_start(file, old);
     }
     false
 }
 
 // A file that cannot be read is emptied first, since its old bytes cannot be kept.
-fn write_in_place(path: &[u8], bytes: &[u8]) -> bool {
-    let fd = calls::open(path, How::Update);
-    if 0 <= fd {
-        let mut old = io::large_buffer();
-        let is_written = write_over(fd, bytes, &mut old);
-        libc::close(fd);
-        return is_written;
+fn write_in_place<R: Files>(rt: &R, path: &[u8], bytes: &[u8]) -> bool {
+    match calls::open(rt, path, How::Update) {
+        Ok(mut file) => {
+            let mut old = [0u8; PIECE];
+            write_over(&mut file, bytes, &mut old)
+        }
+        Err(e) if e.kind() == ErrorKind::NotFound => write_new(rt, path, bytes),
+        Err(_) => match calls::open(rt, path, How::Emptied) {
+            Ok(file) => fill(file, bytes),
+            Err(_) => false,
+        },
     }
-    if os::errno() == libc::ENOENT {
-        return write_new(path, bytes);
-    }
-    let fd = calls::open(path, How::Emptied);
-    0 <= fd && fill(fd, bytes)
 }
 
 // Makes these bytes the file's. They are written beside it, under a name that ends with a digit, and then take its name: the old file stays
 // whole until the new one is. Where that fails, as where no file can be made there, they are written in place.
-pub fn replace(path: &[u8], part: &mut [u8], bytes: &[u8]) -> bool {
-    if !lets_itself_be_written(path) {
+pub fn replace<R: Files>(rt: &R, path: &[u8], part: &mut [u8], bytes: &[u8]) -> bool {
+    if !lets_itself_be_written(rt, path) {
         return false;
     }
-    let fd = make_part(part);
-    if fd < 0 {
-        return write_in_place(path, bytes);
-    }
-    if fill(fd, bytes) && os::rename(part, path) == 0 {
+    let Some(file) = make_part(rt, part) else {
+        return write_in_place(rt, path, bytes);
+    };
+    if fill(file, bytes) && calls::rename(rt, part, path) {
         return true;
     }
-    os::unlink(part);
-    write_in_place(path, bytes)
+    calls::remove(rt, part);
+    write_in_place(rt, path, bytes)
 }

@@ -6,6 +6,8 @@ ghost use Rattle.std.specs.Prelude.{◌≡◌, min};
 
 pub mod text;
 
+use std::io::Read;
+
 pub fn least(a: usize, b: usize) -> usize
     ensures { result ≡ min a b }
 {
@@ -13,7 +15,7 @@ pub fn least(a: usize, b: usize) -> usize
 }
 
 // Whether as many bytes were there.
-pub fn is_read(buf: &mut [u8], n: usize) -> bool {
+pub fn is_read(rt: &impl Input, buf: &mut [u8], n: usize) -> bool {
     let k = least(n, buf.len());
-    io::read_full(libc::STDIN_FILENO, &mut buf[..k]) == k
+    rt.reader().read_exact(&mut buf[..k]).is_ok()
 }

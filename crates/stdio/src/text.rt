@@ -2,57 +2,50 @@
 ghost use Rattle.std.specs.Prelude.{◌≤◌, ◌*◌, length};
 
 use clause::{Clause, Set};
-use libc::STDOUT_FILENO;
 use sheet::edition::Edition;
 use sheet::{Reason, RecordNo};
-
-// A word as hex.
-const WORD_DIGITS: usize = 16;
+use std::io;
 
 // Bytes are printed so many at a time, each as two digits.
 const PART: usize = 2000;
 
-pub fn print(words: &[u8]) {
-    calls::write_all(STDOUT_FILENO, words);
+pub fn print(rt: &impl Print, words: &[u8]) {
+    calls::write_all(&mut io::writer(rt), words);
 }
 
-pub fn print_number(words: &[u8], n: u64) {
-    let mut digits = [0u8; 20];
-    let k = io::decimal(n, &mut digits);
-    print(words);
-    print(&digits[..k]);
+pub fn print_number(rt: &impl Print, words: &[u8], n: u64) {
+    print(rt, words);
+    let _ = rt.print(n);
 }
 
-pub fn print_count(words: &[u8], n: u16) {
-    print_number(words, n as u64);
+pub fn print_count(rt: &impl Print, words: &[u8], n: u16) {
+    print_number(rt, words, n as u64);
 }
 
-fn print_word(word: u64) {
-    let mut digits = [0u8; WORD_DIGITS];
-    let k = io::hex(word, WORD_DIGITS, &mut digits);
-    print(&digits[..k]);
+fn print_word(rt: &impl Print, word: u64) {
+    let _ = print!(rt; "{word:016x}");
 }
 
 // A narrow set is the low word; of a wide one the high word comes first.
-pub fn print_set(words: &[u8], edition: Edition, s: Set) {
-    print(words);
+pub fn print_set(rt: &impl Print, words: &[u8], edition: Edition, s: Set) {
+    print(rt, words);
     match edition {
         Edition::Narrow => {}
-        Edition::Wide => print_word(s.high),
+        Edition::Wide => print_word(rt, s.high),
     }
-    print_word(s.low);
+    print_word(rt, s.low);
 }
 
 // "= ok <positive> <negative>", with which each accepted answer begins.
-pub fn print_ok(edition: Edition, c: Clause) {
-    print_set(b"= ok ", edition, c.positive);
-    print_set(b" ", edition, c.negative);
+pub fn print_ok(rt: &impl Print, edition: Edition, c: Clause) {
+    print_set(rt, b"= ok ", edition, c.positive);
+    print_set(rt, b" ", edition, c.negative);
 }
 
 // The words, the number of the reason and the record.
-pub fn print_refused(words: &[u8], why: Reason, k: RecordNo) {
-    print_number(words, sheet::number_of(why) as u64);
-    print_number(b" ", k.0 as u64);
+pub fn print_refused(rt: &impl Print, words: &[u8], why: Reason, k: RecordNo) {
+    print_number(rt, words, sheet::number_of(why) as u64);
+    print_number(rt, b" ", k.0 as u64);
 }
 
 // The digit of a number below 16.
@@ -76,23 +69,23 @@ fn put_hex(bytes: &[u8], text: &mut [u8])
     }
 }
 
-fn print_part(bytes: &[u8])
+fn print_part(rt: &impl Print, bytes: &[u8])
     requires { length bytes.now ≤ 2000 }
 {
     let mut text = [0u8; 2 * PART];
     put_hex(bytes, &mut text);
     let n = 2 * bytes.len();
-    print(&text[..n]);
+    print(rt, &text[..n]);
 }
 
-pub fn print_bytes(bytes: &[u8]) {
+pub fn print_bytes(rt: &impl Print, bytes: &[u8]) {
     if bytes.len() == 0 {
-        print(b"-");
+        print(rt, b"-");
     }
     let mut at = 0;
     while at < bytes.len() {
         let end = at + crate::least(bytes.len() - at, PART);
-        print_part(&bytes[at..end]);
+        print_part(rt, &bytes[at..end]);
         at = end;
     }
 }

@@ -1,7 +1,4 @@
-use lib.Dec.{eqb}
-use lib.ListN.{get_or}
-use native.Mathlib.Omega.{arith}
-use Rattle.press_top_down.proofs.Scoring.{at_most_one, gain-twice, gain-both}
+use Rattle.press_top_down.proofs.Scoring.{gain-twice, gain-both}
 use Rattle.press_top_down.proofs.score.gain.Goals as goal
 
 pub returns-then-l-r : goal.returns-then-l-r
