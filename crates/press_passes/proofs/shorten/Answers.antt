@@ -23,9 +23,10 @@ returns-clause-sound c =
     let a = c.args in
     let r = c.requires in
     let b = c.rebuild in
-    let read = read_last most_nodes (length a.links.now) b.new.stand_ins b.auto.stand_ins r.2 r.1 in
-    (rebuilt-nodes _ a.links.now a.clauses.now b.new.links b.new.clauses _ r.0 b.auto.links b.auto.clauses b.ensures,
-     from-below r.0 b.new.links b.new.clauses _ _ b.ensures _ read r.1 b.auto.links)
+    let read = read_last most_nodes (length a.links.now) b.new.stand_ins b.auto.stand_ins r.2 r.1 in (
+      rebuilt-nodes _ a.links.now a.clauses.now b.new.links b.new.clauses _ r.0 b.auto.links b.auto.clauses b.ensures,
+      from-below r.0 b.new.links b.new.clauses _ _ b.ensures _ read r.1 b.auto.links,
+    )
 
 pub returns-clause-short : goal.returns-clause-short
 returns-clause-short c =
