@@ -8,7 +8,7 @@ use Rattle.sheet.specs.declared.Verdict.{Verdict}
 use Rattle.sheet.specs.declared.Verdict.TheVariants.{Fine}
 use Rattle.press_spec.specs.declared.Plan.{Plan}
 use Rattle.press_spec.specs.Judge.{check_press}
-use Rattle.press_spec.specs.Press.{Call, call, sizes_of}
+use Rattle.press_spec.specs.Press.{call, sizes_of}
 use Rattle.press_nodes.specs.Tables.{clause_words}
 use Rattle.press_nodes.proofs.Lent.{lent-long}
 use Rattle.press.proofs.Ready.{few-records, press-refused}

@@ -1,10 +1,9 @@
 use native.Mathlib.Omega.{arith}
-use mathlib.Core.Path.{◌≡◌, refl, sym, ap, ◌∙◌}
+use mathlib.Core.Path.{refl, sym, ap, ◌∙◌}
 use Prim.Native.Nat.{ℕ, ◌*◌}
 use Rattle.sheet.specs.Editions.{record_bytes}
-use Rattle.press_spec.specs.Judge.{proper, judge}
-use Rattle.press_spec.specs.Press.{Call, call}
-use Rattle.press_nodes.specs.Tables.{clause_words, nodes_in}
+use Rattle.press_spec.specs.Press.{call}
+use Rattle.press_nodes.specs.Tables.{clause_words}
 use Rattle.press.specs.Said.{said}
 use Rattle.press.proofs.Ready.{whole-records, some-records, few-records, judged-fits, judged-emittable, judged-nodes, judged-bad, judged-well, pressed-well}
 use Rattle.press.proofs.press_records.Goals as goal
