@@ -14,8 +14,7 @@ use replay_slots::Slot;
 
 // Presses `sheet` against `rules` into `out`, marks the rule lines used in `marks`, and fills `report` with the record, positive,
 // negative, records, nodes, steps, peak, marked and the sets' high words, as many as fit. Answers 0, or the number of the refusal.
-#[unsafe(no_mangle)]
-pub extern "C" fn tempuquile_press(
+pub fn tempuquile_press(
     edition: u32,
     recycling: u32,
     lowering: u32,
@@ -38,8 +37,7 @@ pub extern "C" fn tempuquile_press(
 
 // Replays `sheet` against `rules` in `slots`, and fills `report` with the record, positive, negative, nodes, steps, peak and the sets'
 // high words, as many as fit. Answers 0, or the number of the refusal.
-#[unsafe(no_mangle)]
-pub extern "C" fn tempuquile_replay(
+pub fn tempuquile_replay(
     edition: u32,
     sheet: &[u8],
     rules: &[u8],
