@@ -71,30 +71,26 @@ def case(block):
     return f"({replayed} && traced {edition} {sheet} {rules} {slots} {numbers(trace(block[2:]))})"
 
 
-HEAD = """use Prim.Native.Nat.{ℕ, zero, suc, _/_}
-use mathlib.Core.Bool.{Bool, true, _&&_}
-use mathlib.Core.List.{List, [], _∷_, _++_}
-use lib.Dec.{T}
-use lib.ListN.{length}
-use Rattle·base.specs.Bytes.{bytes, flat}
-use Rattle·sheet.specs.Editions.{record_bytes}
-use Rattle·sheet.specs.declared.edition.Edition.{Edition}
-use Rattle·sheet.specs.declared.edition.Edition.the-variants.{EDITIONS}
-use Rattle·sheet.specs.Fields.{record_at}
-use Rattle·replay_spec.specs.Step.{State, Turn, goes, stops, turn}
-use Rattle·replay_spec.specs.Slots.{Slot}
-use Rattle·replay_spec.specs.Replay as Replay
-use Rattle·replay_spec.specs.Replay.{start}
-use Rattle·press_spec.specs.declared.Recycling.{Recycling}
-use Rattle·press_spec.specs.declared.Recycling.the-variants.{Reset, Intersection}
-use Rattle·press_spec.specs.declared.Lowering.{Lowering}
-use Rattle·press_spec.specs.declared.Lowering.the-variants.{Nothing, Of}
-use Rattle·press_spec.specs.declared.Lowerable.the-variants.{Units, Univalents}
-use Rattle·press_spec.specs.Plans.{plan}
-use Rattle·press_spec.specs.Press as Press
-use Rattle·demands.specs.Cases as Cases
-use Rattle·demands.specs.Cases.{press_is, replay_is, junk, dirty, clean, slot_numbers, equal}
-use Rattle·demands.proofs.Computing.{computing}
+HEAD = """use Rattle.std.specs.Prelude.{ℕ, zero, suc, ◌/◌, Bool, true, ◌&&◌, List, [], ◌∷◌, ◌++◌, T, length}
+use Rattle.base.specs.Bytes.{bytes, flat}
+use Rattle.sheet.specs.Editions.{record_bytes}
+use Rattle.sheet.specs.declared.edition.Edition.{Edition}
+use Rattle.sheet.specs.declared.edition.Edition.TheVariants.{EDITIONS}
+use Rattle.sheet.specs.Fields.{record_at}
+use Rattle.replay_spec.specs.Step.{State, Turn, goes, stops, turn}
+use Rattle.replay_spec.specs.Slots.{Slot}
+use Rattle.replay_spec.specs.Replay as Replay
+use Rattle.replay_spec.specs.Replay.{start}
+use Rattle.press_spec.specs.declared.Recycling.{Recycling}
+use Rattle.press_spec.specs.declared.Recycling.TheVariants.{Reset, Intersection}
+use Rattle.press_spec.specs.declared.Lowering.{Lowering}
+use Rattle.press_spec.specs.declared.Lowering.TheVariants.{Nothing, Of}
+use Rattle.press_spec.specs.declared.Lowerable.TheVariants.{Units, Univalents}
+use Rattle.press_spec.specs.Plans.{plan}
+use Rattle.press_spec.specs.Press as Press
+use Rattle.demands.specs.Cases as Cases
+use Rattle.demands.specs.Cases.{press_is, replay_is, junk, dirty, clean, slot_numbers, equal}
+use Rattle.demands.proofs.Computing.{computing}
 """
 
 TRACE = """
@@ -105,13 +101,13 @@ pressed e how what sheet rules room marks said out marked =
 unfoldable pub replayed : Edition → List ℕ → List ℕ → ℕ → List ℕ → List Slot → Bool
 replayed e sheet rules slots said after = replay_is (Replay.replay e sheet rules (dirty slots)) said after
 
-unfoldable pub stateNumbers : State → List ℕ
-stateNumbers s = s .tally .next ∷ s .tally .held ∷ s .tally .peak ∷ s .tally .steps ∷ flat slot_numbers (s .slots)
+unfoldable pub state_numbers : State → List ℕ
+state_numbers s = s.tally.next ∷ s.tally.held ∷ s.tally.peak ∷ s.tally.steps ∷ flat slot_numbers s.slots
 
 unfoldable pub states : Edition → List ℕ → List ℕ → ℕ → ℕ → State → List ℕ
 states e sheet rules zero k s = []
 states e sheet rules (suc m) k s =
-    elim (turn e rules (record_at e sheet k) s) [ goes t ↦ stateNumbers t ++ states e sheet rules m (suc k) t | stops why ↦ [] ]
+    elim (turn e rules (record_at e sheet k) s) [ goes t ↦ state_numbers t ++ states e sheet rules m (suc k) t | stops why ↦ [] ]
 
 unfoldable pub traced : Edition → List ℕ → List ℕ → ℕ → List ℕ → Bool
 traced e sheet rules slots want = equal (states e sheet rules (length sheet / record_bytes e) 0 (start (dirty slots))) want
@@ -135,8 +131,6 @@ def main():
     with tempfile.TemporaryDirectory() as place:
         scratch = pathlib.Path(place)
         shutil.copytree(ROOT / "crates", scratch / "crates")
-        if (ROOT / "target").exists():  # what is proved already is not proved again
-            shutil.copytree(ROOT / "target", scratch / "target")
         names = [line for line in (ROOT / "crates.txt").read_text().splitlines() if line.strip()]
         names.append("scratch: base clause sheet replay_spec press_spec demands")
         (scratch / "crates.txt").write_text("\n".join(names) + "\n")
@@ -151,9 +145,9 @@ def main():
         head = HEAD.replace("EDITIONS", ", ".join(edition.capitalize() for edition in named))
         (specs / "Trace.antt").write_text(head + TRACE)
         for i, batch in enumerate(batches):
-            text = head + "use Rattle·scratch·specs.specs.Trace.{pressed, replayed, stateNumbers, states, traced}\n"
+            text = head + "use Rattle.scratch.specs.Trace.{pressed, replayed, state_numbers, states, traced}\n"
             for j, one in enumerate(batch):
-                text += f"\ncase{j} : T ({one})\n{OPEN} pressed replayed stateNumbers states traced\ncase{j} = tt\n"
+                text += f"\ncase{j} : T ({one})\n{OPEN} pressed replayed state_numbers states traced\ncase{j} = tt\n"
             (specs / f"Batch{i}.antt").write_text(text)
         run = subprocess.run(["rt", "check", "scratch"], cwd=scratch, capture_output=True, text=True)
         if run.returncode != 0:

@@ -30,8 +30,8 @@ the answer and of all that is lent fixes both: nothing else would satisfy it. A 
 asks for something, or says of lent memory only what a view of it shows, is listed with the reason in [PROMISES](PROMISES.md).
 """
 
-# A view of memory shows a part of it: the links and nodes behind words, the fates behind bytes, a part. (`clausesIn` shows every word.)
-VIEWS = r"linksIn|nodesIn|fatesIn|reachesIn|orderIn|judgedIn|take|length"
+# A view of memory shows a part of it: the links and nodes behind words, the fates behind bytes, a part. (`clauses_in` shows every word.)
+VIEWS = r"links_in|nodes_in|fates_in|reaches_in|order_in|judged_in|take|length"
 
 # The limits of the scope document, and where the code and the definitions give them names.
 LIMITS = re.compile(r"(?<![\w.'])(512|1_?023|1_?024|2_?047|128|64|40|32|24|16)(?![\w'])")
@@ -40,7 +40,7 @@ NAMED = ("sheet/src/limits.rt", "sheet/src/narrow.rt", "sheet/src/wide.rt", "she
 ALLOWED = [
     ("clause/specs/Denote.antt", "word = 64", "the digits of a machine word; the crate stands below the limits"),
     ("clause/src/lib.rt", "WORD: u8 = 64", "the same in the code"),
-    ("sheet/specs/Reasons.antt", "numberOf NotHeld = 16", "the number of a refusal"),
+    ("sheet/specs/Reasons.antt", "number_of NotHeld = 16", "the number of a refusal"),
     ("sheet/src/lib.rt", "Reason::NotHeld => 16", "the number of a refusal"),
     ("demands/specs/Starred.antt", "", "worked sheets, byte by byte"),
     ("demands/specs/Telling.antt", "", "worked sheets, byte by byte"),
@@ -122,8 +122,8 @@ def conditional(ensures):
 
 def left_open(ensures, lent):
     """Whether a parameter lent by `&mut` has its last value in no clause but under a view."""
-    seen = re.sub(rf"(?:{VIEWS})(?: \(now \(«?\w+»? \.\w+\)\))+|take \w+ \(now \(«?\w+»? \.exit\)\)", "", "\n".join(ensures))
-    return any(not re.search(rf"now \(«?{p}»? \.exit\)", seen) for p in lent)
+    seen = re.sub(rf"(?:{VIEWS})(?: «?\w+»?\.(?:now|old|new))+|take \w+ «?\w+»?\.new", "", "\n".join(ensures))
+    return any(not re.search(rf"(?<!\w)«?{p}»?\.new", seen) for p in lent)
 
 
 def faults(function, name, allowed):
@@ -146,7 +146,7 @@ def unused():
         for name in re.findall(r"^(?:abbrev |unfoldable )?pub (?:record |data )?([^\s:({]+)", texts[path], re.M):
             if name == "mod":
                 continue
-            word = re.compile(r"(?<![\w·′₀-₉-])" + re.escape(name) + r"(?![\w′₀-₉-])")
+            word = re.compile(r"(?<![\w·'₀-₉-])" + re.escape(name) + r"(?![\w'₀-₉-])")
             own = sum(1 for line in texts[path].split("\n") if word.search(line) and not re.match(rf"(?:(?:abbrev |unfoldable )?pub (?:record |data )?)?{re.escape(name)}[ :]", line))
             if not own and not any(word.search(text) for p, text in texts.items() if p != path):
                 yield f"{path.relative_to(ROOT)}: {name} is used nowhere"
@@ -157,9 +157,10 @@ def retold():
     demands = (CRATES / "demands/specs/Demands.antt").read_text()
     for crate, promise in (("press", "PressPromise"), ("replay", "ReplayPromise"), ("replay_step", "StepPromise")):
         statement = re.search(rf"^{promise} [^=]*=(.*?)\n\n", demands, re.M | re.S)[1]
-        contract = re.search(r"^    ensures \{ λ r\. ⌜(.*)⌝ \}", (CRATES / crate / "src/lib.rt").read_text(), re.M)[1]
-        contract = re.sub(r"now \((\w+) \.entry\)", r"\1", re.sub(r"now \((\w+) \.exit\)", r"\1′", contract))
-        for old, new in ((r"\bedition\b", "e"), (r"number \.0", "k"), (r"\btally(?=′|\b)", "t")):
+        contracts = re.findall(r"^    ensures \{ (.*) \}", (CRATES / crate / "src/lib.rt").read_text(), re.M)
+        contract = next(c for c in contracts if ".new" in c)
+        contract = re.sub(r"(\w+)\.(?:now|old)\b", r"\1", re.sub(r"(\w+)\.new\b", r"\1'", contract))
+        for old, new in ((r"\bedition\b", "e"), (r"number\.0", "k"), (r"\bresult\b", "r"), (r"\btally\b", "t")):
             contract = re.sub(old, new, contract)
         words = [re.sub(r"\b[A-Z]\w*\.|[()]", "", text).split() for text in (statement, contract)]
         if words[0] != words[1]:

@@ -2,8 +2,8 @@
 """repeats.py: finds text that is written twice: six lines or more that two places of the sources share.
 
 Reads the .rt, .antt, .rs and .py files. Not counted: blank lines, comments, lines that bring names in, brackets, and a name or a parameter alone on
-its line, which is how the formatters lay out a long list. In a proof, what the check asks for by name (`x : tie.Need-x`, and answers of one tactic) is
-not counted either: another proof's are other needs. The last line is 'N passed, 0 failed', N the files."""
+its line, which is how the formatters lay out a long list. In a proof, what the check asks for by name (`x : goal.x`, and answers of one tactic) is not
+counted either: another proof's are other goals. The last line is 'N passed, 0 failed', N the files."""
 import pathlib, re, subprocess, sys
 
 ROOT = pathlib.Path(__file__).resolve().parent.parent
@@ -11,8 +11,8 @@ LEAST = 6
 COMMENT = {".rt": "//", ".rs": "//", ".antt": "--", ".py": "#"}
 
 BRINGS = re.compile(r"(pub )?(ghost )?(use|mod|import|from) ")
-LAYOUT = re.compile(r"[\W_]*(?:[\w′«»·+-]+(: [&\w\[\]; ]+)?,?)?[\W_]*")
-ASKED = re.compile(r": \S*[lt]\w*\.(Need|InvT|MeasureT)|= (search needs|omega arith)$|^\(?tie\.(close|spec)$|\{M : Type 1\} → (\S+\.)?statement M$|^unfolding ")
+LAYOUT = re.compile(r"[\W_]*(?:[\w'«»·+-]+(: [&\w\[\]; ]+)?,?)?[\W_]*")
+ASKED = re.compile(r": goal\.|= (search rules|omega arith|grind \(arith, common_steps\))$|^unfolding ")
 
 
 def lines_of(path):

@@ -1,2 +1,2 @@
-// Laws for walks by hand of functions that are lent a row or a tally: no code.
+// No code. Here stood laws for walks by hand of functions that are lent a row or a tally; today's Rattle generates those walks.
 #![tactic(auto)]

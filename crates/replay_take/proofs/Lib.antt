@@ -1,3 +1,2 @@
 pub mod Going
-pub mod Taking
-pub mod Values
+pub mod Said

@@ -8,7 +8,7 @@ use native.Mathlib.Omega.{arith}
 use lib.Dec.{eqb, ltb}
 use lib.ListN.{length}
 use borrow.Author.Tests.{eqb-true, eq-eqb, ltb-true, ltb-false, lt-ltb, not-true, not-false}
-use Rattle.clause.specs.Clauses.{Literals, literals, plus, minus, holds, Within, inside, BothWays, both_ways, alike}
+use Rattle.clause.specs.Clauses.{Literals, literals, plus, minus, holds, Within, inside, both_ways, alike}
 use Rattle.clause.proofs.Clauses.{alike_same, alike_self, inside_of, inside-holds, inside-same, both-ways-meets, meets-both-ways}
 use Rattle.sheet.specs.declared.Reason.{Reason}
 use Rattle.sheet.specs.declared.Reason.TheVariants.{Kind, NotZero, Pivot, NotEarlier, Dropped, PivotMissing, LiteralMissing, LiteralTooMany, NoLine, LineDiffers, SaysNothing, Full}

@@ -1,6 +1,6 @@
 -- What the numbers of every edition have in common: records and lines one after another, and counts that a word has room for.
 use mathlib.Core.Path.{◌≡◌, refl}
-use Prim.Native.Nat.{ℕ, ◌+◌, ◌-◌, ◌*◌, ◌/◌, ◌^◌, ◌≤◌, ◌<◌}
+use Prim.Native.Nat.{ℕ, ◌+◌, ◌*◌, ◌/◌, ◌^◌, ◌≤◌, ◌<◌}
 use native.Mathlib.Omega.{arith}
 use Rattle.clause.specs.Denote.{width}
 use Rattle.sheet.specs.declared.edition.Edition.{Edition}

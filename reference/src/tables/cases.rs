@@ -52,13 +52,13 @@ impl How {
             }
         }
         let passes = match self {
-            Either => "Pressed",
-            By(Recycling::Reset, Lowering::Nothing) => "Reset",
-            By(Recycling::Intersection, Lowering::Nothing) => "Intersected",
-            By(Recycling::Reset, Lowering::Units) => "ResetLowered",
-            By(Recycling::Intersection, Lowering::Units) => "Lowered",
-            By(Recycling::Reset, Lowering::Univalents) => "ResetUnivalents",
-            By(Recycling::Intersection, Lowering::Univalents) => "Univalents",
+            Either => "_pressed",
+            By(Recycling::Reset, Lowering::Nothing) => "_reset",
+            By(Recycling::Intersection, Lowering::Nothing) => "_intersected",
+            By(Recycling::Reset, Lowering::Units) => "_reset_lowered",
+            By(Recycling::Intersection, Lowering::Units) => "_lowered",
+            By(Recycling::Reset, Lowering::Univalents) => "_reset_univalents",
+            By(Recycling::Intersection, Lowering::Univalents) => "_univalents",
         };
         format!("{}{passes}", worked.name)
     }
@@ -106,7 +106,7 @@ pub(super) fn accepts(how: How, worked: &Worked) -> String {
     let said = list(&said(p.positive, p.negative, &counts));
     let (order, bytes) = (order(p.order), pressed_term(how, worked));
     let marks = list(&marks);
-    format!("accepts {plan} {name}Rules {name} ({said}) {order} {bytes} ({marks})")
+    format!("accepts {plan} {name}_rules {name} ({said}) {order} {bytes} ({marks})")
 }
 
 /// What the press writes. That of *pair* stands as bytes, the others as records.
@@ -151,7 +151,7 @@ pub(super) fn replays_pressed(worked: &Worked, slots: usize) -> String {
     let said = replayed(of, &(out, worked.table()), slots);
     let (name, bytes) = (worked.name, pressed_term(Either, worked));
     format!(
-        "replayed {} {bytes} {name}Rules {slots} ({said})",
+        "replayed {} {bytes} {name}_rules {slots} ({said})",
         edition(of)
     )
 }
@@ -160,7 +160,7 @@ pub(super) fn replays_pressed(worked: &Worked, slots: usize) -> String {
 pub(super) fn replays_other(worked: &Worked, slots: usize) -> String {
     let said = replayed(worked.edition.other(), &worked.bytes(), slots);
     let (own, other) = (edition(worked.edition), edition(worked.edition.other()));
-    let table = format!("(rule_table {own} {}Rules)", worked.name);
+    let table = format!("(rule_table {own} {}_rules)", worked.name);
     let bytes = bytes_term(worked);
     format!("replays {other} {bytes} {table} {slots} ({said}) (clean {slots})")
 }

@@ -23,100 +23,88 @@ use cases::{accepts, presses, refuses, replays, replays_other, replays_pressed};
 use terms::{bytes_of, define, literals_of, record, records_of, rules_of, table, table_by_either};
 
 const STARRED: &str = r#"-- "Starred sheets are one table under a single proved statement." Made by the second program: `reference tables`.
-use Prim.Native.Nat.{ℕ, _^_}
-use mathlib.Core.List.{List, [], _∷_, _++_}
-use lib.Dec.{T}
-use lib.ListN.{replicate}
-use Rattle·clause.specs.Clauses.{Literals, literals}
-use Rattle·sheet.specs.declared.edition.Edition.the-variants.{Narrow}
-use Rattle·sheet.specs.Records.{given, step, Record, node, drop}
-use Rattle·sheet.specs.Fields.{sheet_bytes}
-use Rattle·press_spec.specs.declared.Recycling.{Recycling}
-use Rattle·press_spec.specs.declared.Lowering.the-variants.{Nothing}
-use Rattle·press_spec.specs.declared.Order.the-variants.{BottomUp}
-use Rattle·press_spec.specs.Plans.{plan}
-use Rattle·demands·specs.specs.Cases.{Case, accepts, refuses, replayed, all_right}
+use Rattle.std.specs.Prelude.{ℕ, ◌^◌, List, [], ◌∷◌, ◌++◌, T, replicate}
+use Rattle.clause.specs.Clauses.{Literals, literals}
+use Rattle.sheet.specs.declared.edition.Edition.TheVariants.{Narrow}
+use Rattle.sheet.specs.Records.{given, step, Record, node, drop}
+use Rattle.sheet.specs.Fields.{sheet_bytes}
+use Rattle.press_spec.specs.declared.Recycling.{Recycling}
+use Rattle.press_spec.specs.declared.Lowering.TheVariants.{Nothing}
+use Rattle.press_spec.specs.declared.Order.TheVariants.{BottomUp}
+use Rattle.press_spec.specs.Plans.{plan}
+use Rattle.demands.specs.Cases.{Case, accepts, refuses, replayed, all_right}
 "#;
 
 const TELLING: &str = r#"-- Cases that tell apart what the starred sheets do not. Made by the second program: `reference tables`.
-use mathlib.Core.List.{List, [], _∷_}
-use lib.Dec.{T}
-use lib.ListN.{set}
-use Rattle·clause.specs.Clauses.{Literals, literals}
-use Rattle·sheet.specs.declared.edition.Edition.the-variants.{Narrow}
-use Rattle·sheet.specs.Records.{given, step, Record, node, drop}
-use Rattle·sheet.specs.Fields.{sheet_bytes}
-use Rattle·press_spec.specs.declared.Recycling.{Recycling}
-use Rattle·press_spec.specs.declared.Lowering.the-variants.{Nothing}
-use Rattle·press_spec.specs.declared.Order.the-variants.{BottomUp, TopDown}
-use Rattle·press_spec.specs.Plans.{plan}
-use Rattle·demands·specs.specs.Cases.{Case, presses, replays, accepts, refuses, replayed, rule_table, junk, dirty, all_right}
-use Rattle·demands·specs.specs.Starred.{pair_rules, pair, irregular_rules, irregular}
+use Rattle.std.specs.Prelude.{List, [], ◌∷◌, T, set}
+use Rattle.clause.specs.Clauses.{Literals, literals}
+use Rattle.sheet.specs.declared.edition.Edition.TheVariants.{Narrow}
+use Rattle.sheet.specs.Records.{given, step, Record, node, drop}
+use Rattle.sheet.specs.Fields.{sheet_bytes}
+use Rattle.press_spec.specs.declared.Recycling.{Recycling}
+use Rattle.press_spec.specs.declared.Lowering.TheVariants.{Nothing}
+use Rattle.press_spec.specs.declared.Order.TheVariants.{BottomUp, TopDown}
+use Rattle.press_spec.specs.Plans.{plan}
+use Rattle.demands.specs.Cases.{Case, presses, replays, accepts, refuses, replayed, rule_table, junk, dirty, all_right}
+use Rattle.demands.specs.Starred.{pair_rules, pair, irregular_rules, irregular}
 "#;
 
 const WIDE: &str = r#"-- Cases of the wide edition, most of them on variables that the narrow one does not have. Made by the second program: `reference tables`.
-use Prim.Native.Nat.{_+_, _^_}
-use mathlib.Core.List.{List, [], _∷_}
-use lib.Dec.{T}
-use Rattle·clause.specs.Clauses.{Literals, literals}
-use Rattle·sheet.specs.declared.edition.Edition.the-variants.{Narrow, Wide}
-use Rattle·sheet.specs.Records.{given, step, Record, node, drop}
-use Rattle·sheet.specs.Fields.{sheet_bytes}
-use Rattle·press_spec.specs.declared.Recycling.{Recycling}
-use Rattle·press_spec.specs.declared.Lowering.the-variants.{Nothing}
-use Rattle·press_spec.specs.declared.Order.the-variants.{BottomUp}
-use Rattle·press_spec.specs.Plans.{plan}
-use Rattle·demands·specs.specs.Cases.{Case, presses, replays, accepts, refuses, replayed, rule_table, junk, clean, all_right}
-use Rattle·demands·specs.specs.Starred.{lone_rules, lone, lone_pressed}
+use Rattle.std.specs.Prelude.{◌+◌, ◌^◌, List, [], ◌∷◌, T}
+use Rattle.clause.specs.Clauses.{Literals, literals}
+use Rattle.sheet.specs.declared.edition.Edition.TheVariants.{Narrow, Wide}
+use Rattle.sheet.specs.Records.{given, step, Record, node, drop}
+use Rattle.sheet.specs.Fields.{sheet_bytes}
+use Rattle.press_spec.specs.declared.Recycling.{Recycling}
+use Rattle.press_spec.specs.declared.Lowering.TheVariants.{Nothing}
+use Rattle.press_spec.specs.declared.Order.TheVariants.{BottomUp}
+use Rattle.press_spec.specs.Plans.{plan}
+use Rattle.demands.specs.Cases.{Case, presses, replays, accepts, refuses, replayed, rule_table, junk, clean, all_right}
+use Rattle.demands.specs.Starred.{lone_rules, lone, lone_pressed}
 "#;
 
 const RECYCLINGS: &str = r#"-- Sheets that the recyclings press apart, and that tell the intersection from passes that look like it. Made by the second program:
 -- `reference tables`.
-use mathlib.Core.List.{List, [], _∷_}
-use lib.Dec.{T}
-use Rattle·clause.specs.Clauses.{Literals, literals}
-use Rattle·sheet.specs.declared.edition.Edition.the-variants.{Narrow}
-use Rattle·sheet.specs.Records.{given, step, Record, node, drop}
-use Rattle·sheet.specs.Fields.{sheet_bytes}
-use Rattle·press_spec.specs.declared.Recycling.the-variants.{Reset, Intersection}
-use Rattle·press_spec.specs.declared.Lowering.the-variants.{Nothing}
-use Rattle·press_spec.specs.declared.Order.the-variants.{BottomUp}
-use Rattle·press_spec.specs.Plans.{plan}
-use Rattle·demands·specs.specs.Cases.{Case, accepts, all_right}
+use Rattle.std.specs.Prelude.{List, [], ◌∷◌, T}
+use Rattle.clause.specs.Clauses.{Literals, literals}
+use Rattle.sheet.specs.declared.edition.Edition.TheVariants.{Narrow}
+use Rattle.sheet.specs.Records.{given, step, Record, node, drop}
+use Rattle.sheet.specs.Fields.{sheet_bytes}
+use Rattle.press_spec.specs.declared.Recycling.TheVariants.{Reset, Intersection}
+use Rattle.press_spec.specs.declared.Lowering.TheVariants.{Nothing}
+use Rattle.press_spec.specs.declared.Order.TheVariants.{BottomUp}
+use Rattle.press_spec.specs.Plans.{plan}
+use Rattle.demands.specs.Cases.{Case, accepts, all_right}
 "#;
 
 const LOWERINGS: &str = r#"-- Sheets that tell lowering the units from passes that look like it. Made by the second program: `reference tables`.
-use Prim.Native.Nat.{_+_, _^_}
-use mathlib.Core.List.{List, [], _∷_}
-use lib.Dec.{T}
-use Rattle·clause.specs.Clauses.{Literals, literals}
-use Rattle·sheet.specs.declared.edition.Edition.the-variants.{Narrow, Wide}
-use Rattle·sheet.specs.Records.{given, step, Record, node, drop}
-use Rattle·sheet.specs.Fields.{sheet_bytes}
-use Rattle·press_spec.specs.declared.Recycling.the-variants.{Reset, Intersection}
-use Rattle·press_spec.specs.declared.Lowering.the-variants.{Of}
-use Rattle·press_spec.specs.declared.Lowerable.the-variants.{Units}
-use Rattle·press_spec.specs.declared.Order.the-variants.{BottomUp, TopDown}
-use Rattle·press_spec.specs.Plans.{plan}
-use Rattle·demands·specs.specs.Cases.{Case, accepts, all_right}
+use Rattle.std.specs.Prelude.{◌+◌, ◌^◌, List, [], ◌∷◌, T}
+use Rattle.clause.specs.Clauses.{Literals, literals}
+use Rattle.sheet.specs.declared.edition.Edition.TheVariants.{Narrow, Wide}
+use Rattle.sheet.specs.Records.{given, step, Record, node, drop}
+use Rattle.sheet.specs.Fields.{sheet_bytes}
+use Rattle.press_spec.specs.declared.Recycling.TheVariants.{Reset, Intersection}
+use Rattle.press_spec.specs.declared.Lowering.TheVariants.{Of}
+use Rattle.press_spec.specs.declared.Lowerable.TheVariants.{Units}
+use Rattle.press_spec.specs.declared.Order.TheVariants.{BottomUp, TopDown}
+use Rattle.press_spec.specs.Plans.{plan}
+use Rattle.demands.specs.Cases.{Case, accepts, all_right}
 "#;
 
 const UNIVALENTS: &str = r#"-- Sheets that tell lowering the univalents from lowering the units and from passes that look like it. Made by the second program:
 -- `reference tables`.
-use Prim.Native.Nat.{_+_, _^_}
-use mathlib.Core.List.{List, [], _∷_}
-use lib.Dec.{T}
-use Rattle·clause.specs.Clauses.{Literals, literals}
-use Rattle·sheet.specs.declared.edition.Edition.the-variants.{Narrow, Wide}
-use Rattle·sheet.specs.Records.{given, step, Record, node, drop}
-use Rattle·sheet.specs.Fields.{sheet_bytes}
-use Rattle·press_spec.specs.declared.Recycling.the-variants.{Intersection}
-use Rattle·press_spec.specs.declared.Lowering.the-variants.{Of}
-use Rattle·press_spec.specs.declared.Lowerable.the-variants.{Univalents}
-use Rattle·press_spec.specs.declared.Order.the-variants.{BottomUp}
-use Rattle·press_spec.specs.Plans.{plan}
-use Rattle·demands·specs.specs.Cases.{Case, accepts, all_right}
-use Rattle·demands·specs.specs.Lowerings.{opposites, opposites_rules, stays, stays_rules, fewer, fewer_rules, fewer_lowered}
+use Rattle.std.specs.Prelude.{◌+◌, ◌^◌, List, [], ◌∷◌, T}
+use Rattle.clause.specs.Clauses.{Literals, literals}
+use Rattle.sheet.specs.declared.edition.Edition.TheVariants.{Narrow, Wide}
+use Rattle.sheet.specs.Records.{given, step, Record, node, drop}
+use Rattle.sheet.specs.Fields.{sheet_bytes}
+use Rattle.press_spec.specs.declared.Recycling.TheVariants.{Intersection}
+use Rattle.press_spec.specs.declared.Lowering.TheVariants.{Of}
+use Rattle.press_spec.specs.declared.Lowerable.TheVariants.{Univalents}
+use Rattle.press_spec.specs.declared.Order.TheVariants.{BottomUp}
+use Rattle.press_spec.specs.Plans.{plan}
+use Rattle.demands.specs.Cases.{Case, accepts, all_right}
+use Rattle.demands.specs.Lowerings.{opposites, opposites_rules, stays, stays_rules, fewer, fewer_rules, fewer_lowered}
 "#;
 
 pub fn starred() -> String {
@@ -130,7 +118,7 @@ pub fn starred() -> String {
             ("pair", Some(out)) => {
                 bytes_of(worked.edition, "pair_pressed", &sheet(worked.edition, &out))
             }
-            (name, Some(out)) => records_of("", &format!("{name}Pressed"), &out),
+            (name, Some(out)) => records_of("", &format!("{name}_pressed"), &out),
             (_, None) => String::new(),
         };
     }
@@ -188,7 +176,7 @@ pub fn telling() -> String {
         page += &define(why, worked.name, "List Record", &body);
     }
     page += &format!(
-        "\nunfoldable pub one_rule : List Literals\noneRule = {}\n",
+        "\nunfoldable pub one_rule : List Literals\none_rule = {}\n",
         literals_of(&["+0"])
     );
     page + &table_by_either("telling", "Telling", &telling_cases())

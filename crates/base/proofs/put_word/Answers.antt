@@ -1,6 +1,5 @@
 use native.Mathlib.Omega.{arith}
 use Rattle.base.proofs.Bytes.{halves}
-use borrow.Author.Rules.{rules}
 use Rattle.base.proofs.put_word.Goals as goal
 
 pub returns : goal.returns

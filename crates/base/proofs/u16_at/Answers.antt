@@ -1,7 +1,6 @@
 use Prim.Native.Nat.{◌+◌}
 use native.Mathlib.Omega.{arith}
 use Rattle.base.proofs.Bytes.{value_at-add, value_at-one}
-use borrow.Author.Rules.{rules}
 use Rattle.base.proofs.u16_at.Goals as goal
 
 pub returns : goal.returns

@@ -1,6 +1,5 @@
 use native.Mathlib.Omega.{arith}
 use Rattle.base.proofs.Bytes.{value_at-add}
-use borrow.Author.Rules.{rules}
 use Rattle.base.proofs.word_at.Goals as goal
 
 pub returns : goal.returns

@@ -3,7 +3,6 @@ use mathlib.Core.Path.{ap, ◌∙◌}
 use mathlib.Core.Bool.{not}
 use lib.Dec.{eqb}
 use Rattle.clause.specs.Clauses.{both_ways}
-use borrow.Author.Rules.{rules}
 use Rattle.clause.proofs.both_ways.Goals as goal
 
 pub returns : goal.returns

@@ -1,5 +1,4 @@
 use Rattle.clause.specs.Clauses.{common}
-use borrow.Author.Rules.{rules}
 use Rattle.clause.proofs.common.Goals as goal
 
 pub returns : goal.returns

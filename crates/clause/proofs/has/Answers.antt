@@ -4,7 +4,6 @@ use Rattle.clause.specs.Sets.{has}
 use Rattle.clause.specs.Denote.{width, set_of}
 use Rattle.clause.proofs.Sets.{has-past}
 use Rattle.clause.proofs.Blocks.{has-low, has-from, pair_lt}
-use borrow.Author.Rules.{rules}
 use Rattle.clause.proofs.has.Goals as goal
 
 pub returns-then-v-lt-WORD : goal.returns-then-v-lt-WORD

@@ -1,5 +1,4 @@
 use Rattle.clause.specs.Clauses.{inside}
-use borrow.Author.Rules.{rules}
 use Rattle.clause.proofs.inside.Goals as goal
 
 pub returns-then-subset : goal.returns-then-subset

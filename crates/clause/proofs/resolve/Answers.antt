@@ -1,5 +1,4 @@
 use Rattle.clause.specs.Clauses.{resolvent, joined, lacking}
-use borrow.Author.Rules.{rules}
 use Rattle.clause.proofs.resolve.Goals as goal
 
 pub returns : goal.returns

@@ -1,5 +1,4 @@
 use Rattle.clause.specs.Clauses.{alike}
-use borrow.Author.Rules.{rules}
 use Rattle.clause.proofs.same.Goals as goal
 
 pub returns-then-equal : goal.returns-then-equal

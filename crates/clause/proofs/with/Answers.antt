@@ -4,7 +4,6 @@ use native.Mathlib.Omega.{arith}
 use Rattle.clause.specs.Denote.{width}
 use Rattle.clause.proofs.Words.{or-with, with_below-with, with_below-past}
 use Rattle.clause.proofs.Blocks.{with-low, with-from}
-use borrow.Author.Rules.{rules}
 use Rattle.clause.proofs.with.Goals as goal
 
 pub returns-then-v-lt-WORD : goal.returns-then-v-lt-WORD

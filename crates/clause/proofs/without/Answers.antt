@@ -4,7 +4,6 @@ use native.Mathlib.Omega.{arith}
 use Rattle.clause.specs.Denote.{width, set_of}
 use Rattle.clause.proofs.Words.{xor-without, without-past}
 use Rattle.clause.proofs.Blocks.{without-low, without_from, pair_lt}
-use borrow.Author.Rules.{rules}
 use Rattle.clause.proofs.without.Goals as goal
 
 pub returns-then-v-lt-WORD : goal.returns-then-v-lt-WORD

@@ -1,6 +1,5 @@
 use Rattle.replay_spec.specs.Replay.{by_last}
 use Rattle.replay_answer.specs.Answers.{said, ended}
-use borrow.Author.Rules.{rules}
 use Rattle.replay_answer.proofs.end.Goals as goal
 
 pub returns-in-Refused : goal.returns-in-Refused

@@ -1,6 +1,5 @@
 use Rattle.replay_spec.specs.Slots.{last_of}
 use Rattle.replay_answer.proofs.Ending.{last-is}
-use borrow.Author.Rules.{rules}
 use Rattle.replay_answer.proofs.last_sought.Goals as goal
 
 pub returns-then-t-eq0 : goal.returns-then-t-eq0

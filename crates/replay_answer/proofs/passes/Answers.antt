@@ -1,6 +1,5 @@
 use mathlib.Core.Path.{sym, ap}
 use Rattle.replay_spec.specs.Step.{passes}
-use borrow.Author.Rules.{rules}
 use Rattle.replay_answer.proofs.passes.Goals as goal
 
 pub returns-in-Fine : goal.returns-in-Fine

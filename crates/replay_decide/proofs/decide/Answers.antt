@@ -1,7 +1,6 @@
 use mathlib.Core.Path.{sym, ◌∙◌}
 use Rattle.sheet.specs.Denote.{reading_of, verdict_of}
 use Rattle.replay_decide.specs.Decides.{by_checks, decided}
-use borrow.Author.Rules.{rules}
 use Rattle.replay_decide.proofs.decide.Goals as goal
 
 pub returns-in_default : goal.returns-in_default

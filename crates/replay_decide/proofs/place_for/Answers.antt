@@ -1,7 +1,6 @@
 use Rattle.sheet.specs.Records.{clause}
 use Rattle.sheet.specs.Denote.{record_of}
 use Rattle.replay_decide.specs.Decides.{placed}
-use borrow.Author.Rules.{rules}
 use Rattle.replay_decide.proofs.place_for.Goals as goal
 
 pub returns-in-Given : goal.returns-in-Given

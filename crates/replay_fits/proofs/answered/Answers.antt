@@ -1,6 +1,5 @@
 use Rattle.replay_spec.specs.Step.{answered}
 use Rattle.replay_slots.specs.Said.{said_of_step}
-use borrow.Author.Rules.{rules}
 use Rattle.replay_fits.proofs.answered.Goals as goal
 
 pub returns-in-Fine : goal.returns-in-Fine

@@ -1,6 +1,5 @@
 use borrow.Author.Tests.{eq-eqb, ne_eqb}
 use Rattle.replay_spec.specs.Step.{fits, passes}
-use borrow.Author.Rules.{rules}
 use Rattle.replay_fits.proofs.fits.Goals as goal
 
 pub returns-then-bytes-record_bytes : goal.returns-then-bytes-record_bytes

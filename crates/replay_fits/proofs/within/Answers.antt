@@ -1,6 +1,5 @@
 use borrow.Author.Tests.{lt-ltb, le-ltb, le-leb, lt-leb}
 use Rattle.replay_spec.specs.Step.{reached}
-use borrow.Author.Rules.{rules}
 use Rattle.replay_fits.proofs.within.Goals as goal
 
 pub returns-then-t : goal.returns-then-t

@@ -1,6 +1,5 @@
 use borrow.Author.Tests.{eq-eqb, ne_eqb}
 use Rattle.replay_spec.specs.Slots.{holding}
-use borrow.Author.Rules.{rules}
 use Rattle.replay_slots.proofs.holds.Goals as goal
 
 pub returns-then-s-ne0 : goal.returns-then-s-ne0

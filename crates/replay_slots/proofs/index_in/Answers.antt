@@ -1,5 +1,4 @@
 use Rattle.replay_slots.specs.Looks.{index_in}
-use borrow.Author.Rules.{rules}
 use Rattle.replay_slots.proofs.index_in.Goals as goal
 
 pub returns-in-Nowhere : goal.returns-in-Nowhere

@@ -1,5 +1,4 @@
 use Rattle.replay_spec.specs.Slots.{into}
-use borrow.Author.Rules.{rules}
 use Rattle.replay_slots.proofs.into.Goals as goal
 
 pub returns-in-Nowhere : goal.returns-in-Nowhere

@@ -1,6 +1,5 @@
 use Rattle.replay_spec.specs.Slots.{free}
 use Rattle.replay_slots.specs.Looks.{is_sought}
-use borrow.Author.Rules.{rules}
 use Rattle.replay_slots.proofs.is_sought.Goals as goal
 
 pub returns-in-Nothing : goal.returns-in-Nothing

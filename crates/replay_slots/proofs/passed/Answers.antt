@@ -1,5 +1,4 @@
 use Rattle.replay_slots.specs.Looks.{passed}
-use borrow.Author.Rules.{rules}
 use Rattle.replay_slots.proofs.passed.Goals as goal
 
 pub returns-in-Nothing : goal.returns-in-Nothing

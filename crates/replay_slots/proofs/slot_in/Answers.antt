@@ -1,5 +1,4 @@
 use Rattle.replay_spec.specs.Slots.{slot_in}
-use borrow.Author.Rules.{rules}
 use Rattle.replay_slots.proofs.slot_in.Goals as goal
 
 pub returns-in-Nowhere : goal.returns-in-Nowhere

@@ -1,6 +1,5 @@
 use Rattle.sheet.specs.Denote.{record_of, reading_of}
 use Rattle.replay_sought.specs.Sought.{room_sought}
-use borrow.Author.Rules.{rules}
 use Rattle.replay_sought.proofs.room_sought.Goals as goal
 
 pub returns-in_default : goal.returns-in_default

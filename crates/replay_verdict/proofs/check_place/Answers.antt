@@ -1,7 +1,6 @@
 use Rattle.sheet.specs.Reasons.{unless}
 use Rattle.replay_spec.specs.Slots.{is_place}
 use Rattle.replay_verdict.specs.Found.{check_place}
-use borrow.Author.Rules.{rules}
 use Rattle.replay_verdict.proofs.check_place.Goals as goal
 
 pub returns-in-Nowhere : goal.returns-in-Nowhere

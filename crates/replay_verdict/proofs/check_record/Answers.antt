@@ -2,7 +2,6 @@ use Rattle.sheet.specs.Denote.{record_of}
 use Rattle.replay_spec.specs.Step.{first_of}
 use Rattle.replay_verdict.specs.Found.{check_found}
 use Rattle.replay_verdict.proofs.Checking.{last-check}
-use borrow.Author.Rules.{rules}
 use Rattle.replay_verdict.proofs.check_record.Goals as goal
 
 pub returns-in-Given : goal.returns-in-Given

@@ -1,5 +1,4 @@
 use Rattle.sheet.specs.Reasons.{number_of}
-use borrow.Author.Rules.{rules}
 use Rattle.sheet.proofs.number_of.Goals as goal
 
 pub returns-in-Ragged : goal.returns-in-Ragged

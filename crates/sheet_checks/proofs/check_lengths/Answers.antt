@@ -1,8 +1,6 @@
 use borrow.Author.Tests.{eq-eqb, ne_eqb, le-leb, lt-leb}
 use Rattle.sheet.specs.Reasons.{unless}
 use Rattle.sheet.specs.Checks.{check_lengths}
-use Rattle.sheet.proofs.Sizes.{record-some}
-use borrow.Author.Rules.{rules}
 use Rattle.sheet_checks.proofs.check_lengths.Goals as goal
 
 pub returns-then-sheet-bytes-ne0 : goal.returns-then-sheet-bytes-ne0

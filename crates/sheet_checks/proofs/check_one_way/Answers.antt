@@ -1,6 +1,5 @@
 use Rattle.sheet.specs.Reasons.{unless}
 use Rattle.sheet.specs.Checks.{check_one_way}
-use borrow.Author.Rules.{rules}
 use Rattle.sheet_checks.proofs.check_one_way.Goals as goal
 
 pub returns-then-both_ways : goal.returns-then-both_ways

@@ -1,6 +1,5 @@
 use Rattle.sheet.specs.Reasons.{unless}
 use Rattle.sheet.specs.Checks.{check_result}
-use borrow.Author.Rules.{rules}
 use Rattle.sheet_checks.proofs.check_result.Goals as goal
 
 pub returns-then-inside-2 : goal.returns-then-inside-2

@@ -2,13 +2,11 @@ use Rattle.std.proofs.Common.{arith}
 use Rattle.std.proofs.lemmas.Grind.{common_steps}
 use mathlib.Core.Path.{◌≡◌, ◌∙◌}
 use mathlib.Core.Bool.{true}
-use mathlib.Core.Logic.{⊎_elim}
 use Prim.Native.Nat.{ℕ}
 use Rattle.clause.specs.Clauses.{Literals, plus, minus, holds, resolvent}
 use Rattle.sheet.specs.declared.Verdict.{Verdict}
 use Rattle.sheet.specs.Reasons.{unless}
 use Rattle.sheet.specs.Checks.{check_result, check_step}
-use borrow.Author.Rules.{rules}
 use Rattle.sheet_checks.proofs.check_step.Goals as goal
 
 compared : (p : ℕ) (l r c result : Literals) (v : Verdict)

@@ -1,11 +1,7 @@
 use Rattle.std.proofs.Common.{arith}
 use Rattle.std.proofs.lemmas.Grind.{common_steps}
-use mathlib.Core.Logic.{⊎_elim}
-use borrow.Author.Tests.{eq-eqb, ne_eqb}
 use Rattle.sheet.specs.Reasons.{unless}
 use Rattle.sheet.specs.Checks.{check_table}
-use Rattle.sheet.proofs.Sizes.{line-some}
-use borrow.Author.Rules.{rules}
 use Rattle.sheet_checks.proofs.check_table.Goals as goal
 
 pub returns-then-rules-bytes-le-TABLE_LINES : goal.returns-then-rules-bytes-le-TABLE_LINES

@@ -1,12 +1,9 @@
 use Prim.Native.Nat.{ℕ, ◌+◌}
 use mathlib.Core.Path.{ap, ap₂, ◌∙◌}
-use native.Mathlib.Omega.{arith}
 use Rattle.base.specs.Bytes.{value_at}
 use Rattle.clause.specs.Clauses.{literals}
 use Rattle.sheet.specs.Editions.{set_bytes}
 use Rattle.sheet.specs.Fields.{clause_at}
-use Rattle.sheet.proofs.Sizes.{line-size}
-use borrow.Author.Rules.{rules}
 use Rattle.sheet_read.proofs.clause_at.Goals as goal
 
 pub returns : goal.returns

@@ -1,7 +1,5 @@
-use native.Mathlib.Omega.{arith}
 use lib.ListN.{get_or}
 use Rattle.sheet.specs.Fields.{fields, fields_of}
-use Rattle.sheet.proofs.Sizes.{line-size, record-size}
 use Rattle.sheet_record.proofs.fields_of.Goals as goal
 
 pub returns : goal.returns

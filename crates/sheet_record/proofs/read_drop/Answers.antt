@@ -1,12 +1,10 @@
 use Rattle.std.proofs.Common.{arith}
 use Rattle.std.proofs.lemmas.Grind.{common_steps}
 use mathlib.Core.Path.{sym, ap, ◌∙◌}
-use mathlib.Core.Logic.{⊎_elim}
-use borrow.Author.Tests.{eq-eqb, ne_eqb}
+use borrow.Author.Tests.{eq-eqb}
 use Rattle.clause.specs.Clauses.{alike}
 use Rattle.sheet.specs.Fields.{read_drop, when_zero}
 use Rattle.sheet.specs.Denote.{reading_of, record_of}
-use borrow.Author.Rules.{rules}
 use Rattle.sheet_record.proofs.read_drop.Goals as goal
 
 pub returns-then-same : goal.returns-then-same

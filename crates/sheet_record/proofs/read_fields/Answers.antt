@@ -1,10 +1,8 @@
 use Rattle.std.proofs.Common.{arith}
 use Rattle.std.proofs.lemmas.Grind.{common_steps}
-use mathlib.Core.Logic.{⊎_elim}
 use borrow.Author.Tests.{eq-eqb, ne_eqb}
 use Rattle.sheet.specs.Fields.{read_fields}
 use Rattle.sheet.specs.Denote.{reading_of}
-use borrow.Author.Rules.{rules}
 use Rattle.sheet_record.proofs.read_fields.Goals as goal
 
 pub returns-then-kind-eq1 : goal.returns-then-kind-eq1

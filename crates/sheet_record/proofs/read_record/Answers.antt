@@ -1,6 +1,5 @@
 use mathlib.Core.Path.{ap, ◌∙◌}
 use Rattle.sheet.specs.Fields.{read_fields, reading}
-use borrow.Author.Rules.{rules}
 use Rattle.sheet_record.proofs.read_record.Goals as goal
 
 pub returns : goal.returns

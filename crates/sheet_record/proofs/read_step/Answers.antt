@@ -1,7 +1,6 @@
 use borrow.Author.Tests.{eq-eqb, ne_eqb, lt-ltb, le-ltb}
 use Rattle.sheet.specs.Fields.{read_step, when_zero}
 use Rattle.sheet.specs.Denote.{reading_of, record_of}
-use borrow.Author.Rules.{rules}
 use Rattle.sheet_record.proofs.read_step.Goals as goal
 
 pub returns-then-f-ne0 : goal.returns-then-f-ne0

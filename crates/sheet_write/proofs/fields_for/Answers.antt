@@ -2,7 +2,6 @@ use mathlib.Core.Path.{sym, ap, ◌∙◌}
 use Rattle.sheet.specs.declared.Record.{Record}
 use Rattle.sheet.specs.Fields.{fields, fields_for}
 use Rattle.sheet.specs.Denote.{record_of}
-use borrow.Author.Rules.{rules}
 use Rattle.sheet_write.proofs.fields_for.Goals as goal
 
 pub returns-in-Given : goal.returns-in-Given

@@ -6,7 +6,6 @@ use Rattle.clause.specs.Denote.{set_of}
 use Rattle.sheet.specs.Editions.{set_bytes}
 use Rattle.sheet.specs.Fields.{clause_bytes}
 use Rattle.sheet.proofs.Sizes.{line-size}
-use borrow.Author.Rules.{rules}
 use Rattle.sheet_write.proofs.put_clause.Goals as goal
 
 pub returns : goal.returns

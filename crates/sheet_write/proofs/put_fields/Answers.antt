@@ -6,8 +6,7 @@ use Rattle.base.proofs.Bytes.{then}
 use Rattle.clause.specs.Denote.{literals_of}
 use Rattle.sheet.specs.Fields.{clause_bytes, number_bytes, field_bytes}
 use Rattle.sheet.specs.Denote.{fields_in}
-use Rattle.sheet.proofs.Sizes.{line-size, record-size}
-use borrow.Author.Rules.{rules}
+use Rattle.sheet.proofs.Sizes.{record-size}
 use Rattle.sheet_write.proofs.put_fields.Goals as goal
 
 pub returns : goal.returns

@@ -5,7 +5,6 @@ use native.Mathlib.Omega.{arith}
 use Rattle.base.specs.Bytes.{bytes}
 use Rattle.base.proofs.Bytes.{then}
 use Rattle.sheet.specs.Fields.{number_bytes}
-use borrow.Author.Rules.{rules}
 use Rattle.sheet_write.proofs.put_numbers.Goals as goal
 
 pub returns : goal.returns

@@ -2,7 +2,6 @@ use Prim.Native.Nat.{ℕ}
 use mathlib.Core.Path.{ap₂, ◌∙◌}
 use Rattle.base.specs.Bytes.{put}
 use Rattle.sheet.specs.Fields.{Fields, field_bytes, record_bytes_of}
-use borrow.Author.Rules.{rules}
 use Rattle.sheet_write.proofs.put_record.Goals as goal
 
 pub returns : goal.returns

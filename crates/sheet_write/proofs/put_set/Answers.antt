@@ -6,7 +6,6 @@ use Rattle.base.proofs.Bytes.{bytes-mod}
 use Rattle.clause.specs.Denote.{set_of}
 use Rattle.sheet.specs.declared.edition.Edition.{Edition}
 use Rattle.sheet.specs.Editions.{set_bytes}
-use borrow.Author.Rules.{rules}
 use Rattle.sheet_write.proofs.put_set.Goals as goal
 
 pub returns-in-Narrow : goal.returns-in-Narrow

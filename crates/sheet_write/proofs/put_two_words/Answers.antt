@@ -5,7 +5,6 @@ use native.Mathlib.Omega.{arith}
 use lib.Pow.{high, low}
 use Rattle.base.specs.Bytes.{bytes, put}
 use Rattle.base.proofs.Bytes.{length-bytes, bytes-add, bytes-mod, then}
-use borrow.Author.Rules.{rules}
 use Rattle.sheet_write.proofs.put_two_words.Goals as goal
 
 two-words : (hi lo : ℕ) → lo < 2 ^ 64 → bytes 8 lo ++ bytes 8 hi ≡ bytes 16 (hi * 2 ^ 64 + lo)

@@ -4,7 +4,6 @@ use Rattle.sheet.specs.Denote.{record_of}
 use Rattle.sheet.specs.Counts.{step_of}
 use Rattle.tally.specs.Tally.{counted}
 use Rattle.tally.specs.Said.{tally_of}
-use borrow.Author.Rules.{rules}
 use Rattle.tally.proofs.counted.Goals as goal
 
 pub returns-in-Given : goal.returns-in-Given

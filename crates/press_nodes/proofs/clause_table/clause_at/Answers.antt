@@ -2,7 +2,6 @@ use Prim.Native.Nat.{ℕ, ◌+◌, ◌*◌}
 use mathlib.Core.Path.{ap, ap₂, ◌∙◌}
 use Rattle.clause.specs.Clauses.{literals}
 use Rattle.press_nodes.specs.Tables.{clauses_in, sets_in}
-use borrow.Author.Rules.{rules}
 use Rattle.press_nodes.proofs.clause_table.clause_at.Goals as goal
 
 pub returns : goal.returns

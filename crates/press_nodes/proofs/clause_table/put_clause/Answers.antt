@@ -3,7 +3,6 @@ use mathlib.Core.Path.{ap, ◌∙◌}
 use Rattle.clause.specs.Denote.{literals_of}
 use Rattle.press_nodes.specs.Tables.{clauses_in, changed}
 use Rattle.press_nodes.proofs.Tables.{clauses-put}
-use borrow.Author.Rules.{rules}
 use Rattle.press_nodes.proofs.clause_table.put_clause.Goals as goal
 
 pub returns : goal.returns

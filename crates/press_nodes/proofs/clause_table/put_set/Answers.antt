@@ -1,5 +1,4 @@
 use Rattle.press_nodes.proofs.Tables.{sets-put}
-use borrow.Author.Rules.{rules}
 use Rattle.press_nodes.proofs.clause_table.put_set.Goals as goal
 
 pub returns : goal.returns

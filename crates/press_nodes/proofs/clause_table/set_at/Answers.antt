@@ -1,6 +1,5 @@
 use mathlib.Core.Path.{refl}
 use Rattle.press_nodes.specs.Tables.{sets_in}
-use borrow.Author.Rules.{rules}
 use Rattle.press_nodes.proofs.clause_table.set_at.Goals as goal
 
 pub returns : goal.returns

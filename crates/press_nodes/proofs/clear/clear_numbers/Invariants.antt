@@ -1,10 +1,7 @@
-use mathlib.Core.Path.{◌≡◌, ◌∙◌}
+use mathlib.Core.Path.{◌≡◌}
 use mathlib.Core.List.{◌++◌}
 use Prim.Native.Nat.{◌-◌, ◌≤◌}
-use native.Mathlib.Omega.{arith}
-use lib.ListN.{length, replicate, drop, length-set}
-use Rattle.base.proofs.Lists.{filled}
-use borrow.Author.Fill.{fill_more}
+use lib.ListN.{length, replicate, drop}
 use Rattle.press_nodes.proofs.clear.clear_numbers.Given as goal
 
 abbrev pub invariant-loop-k : goal.invariant-loop-k

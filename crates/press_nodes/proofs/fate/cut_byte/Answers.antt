@@ -1,5 +1,4 @@
 use Rattle.press_nodes.specs.Fates.{cut_in, cut_byte}
-use borrow.Author.Rules.{rules}
 use Rattle.press_nodes.proofs.fate.cut_byte.Goals as goal
 
 pub returns-in-Left : goal.returns-in-Left

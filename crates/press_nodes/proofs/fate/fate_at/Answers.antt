@@ -1,6 +1,5 @@
 use Rattle.press_nodes.specs.Fates.{cut_in, fate_in}
 use Rattle.press_nodes.proofs.Fated.{fate-lost, fate-left, fate-right, fate-kept}
-use borrow.Author.Rules.{rules}
 use Rattle.press_nodes.proofs.fate.fate_at.Goals as goal
 
 pub returns-then-byte-eq-LOST : goal.returns-then-byte-eq-LOST

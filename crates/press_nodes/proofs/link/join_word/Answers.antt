@@ -1,6 +1,5 @@
 use native.Mathlib.Omega.{arith}
 use Rattle.press_nodes.proofs.Tables.{join-word}
-use borrow.Author.Rules.{rules}
 use Rattle.press_nodes.proofs.link.join_word.Goals as goal
 
 pub returns : goal.returns

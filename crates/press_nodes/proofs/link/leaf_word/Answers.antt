@@ -1,5 +1,4 @@
 use Rattle.press_nodes.proofs.Tables.{leaf-word}
-use borrow.Author.Rules.{rules}
 use Rattle.press_nodes.proofs.link.leaf_word.Goals as goal
 
 pub returns : goal.returns

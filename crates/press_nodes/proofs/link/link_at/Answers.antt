@@ -1,6 +1,5 @@
 use mathlib.Core.Path.{◌∙◌}
 use Rattle.press_nodes.proofs.Tables.{links-at}
-use borrow.Author.Rules.{rules}
 use Rattle.press_nodes.proofs.link.link_at.Goals as goal
 
 pub returns : goal.returns

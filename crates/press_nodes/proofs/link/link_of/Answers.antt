@@ -1,6 +1,5 @@
 use borrow.Author.Tests.{eq-eqb, ne_eqb}
 use Rattle.press_nodes.specs.Tables.{link_in, link_of}
-use borrow.Author.Rules.{rules}
 use Rattle.press_nodes.proofs.link.link_of.Goals as goal
 
 pub returns-then-word-eq-STEP : goal.returns-then-word-eq-STEP

@@ -1,5 +1,4 @@
 use Rattle.press_nodes.proofs.Tables.{links-set}
-use borrow.Author.Rules.{rules}
 use Rattle.press_nodes.proofs.link.put_word.Goals as goal
 
 pub returns : goal.returns

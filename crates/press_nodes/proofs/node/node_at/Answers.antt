@@ -1,5 +1,4 @@
 use Rattle.press_nodes.proofs.Found.{reads-leaf, reads-join}
-use borrow.Author.Rules.{rules}
 use Rattle.press_nodes.proofs.node.node_at.Goals as goal
 
 pub returns-in-Leaf : goal.returns-in-Leaf

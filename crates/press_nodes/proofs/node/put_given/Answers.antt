@@ -1,6 +1,5 @@
 use Rattle.press_nodes.specs.Tables.{node_of}
 use Rattle.press_nodes.proofs.Tables.{nodes-put}
-use borrow.Author.Rules.{rules}
 use Rattle.press_nodes.proofs.node.put_given.Goals as goal
 
 pub returns : goal.returns

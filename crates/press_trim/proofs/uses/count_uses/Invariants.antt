@@ -1,10 +1,8 @@
 use Prim.Native.Nat.{ℕ, ◌≤◌}
 use mathlib.Core.Path.{◌≡◌}
-use native.Mathlib.Omega.{arith}
 use lib.ListN.{length, get_or}
 use Rattle.press_nodes.specs.Tables.{links_in}
 use Rattle.press_spec.proofs.Trimmed.{uses_after}
-use Rattle.press_trim.proofs.Used.{uses-start, uses-next, uses-few, uses-done}
 use Rattle.press_trim.proofs.uses.count_uses.Given as goal
 
 abbrev pub invariant-loop-i : goal.invariant-loop-i

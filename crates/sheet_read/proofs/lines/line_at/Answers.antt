@@ -1,7 +1,6 @@
 use Prim.Native.Nat.{ℕ, ◌*◌}
 use mathlib.Core.Path.{ap, ap₂, ◌∙◌}
 use lib.ListN.{length}
-use native.Mathlib.Omega.{arith}
 use Rattle.sheet.specs.Fields.{clause_at, rule_lines, rule_line}
 use Rattle.sheet.proofs.Sizes.{line-inside}
 use borrow.Author.Rules.{rules}

@@ -5,7 +5,6 @@ use Rattle.base.specs.Bytes.{value_at}
 use Rattle.base.proofs.Bytes.{value_at-add}
 use Rattle.sheet.specs.declared.edition.Edition.{Edition}
 use Rattle.sheet.specs.Editions.{set_bytes}
-use borrow.Author.Rules.{rules}
 use Rattle.sheet_read.proofs.sets.set_at.Goals as goal
 
 high-then-low : (high low : ℕ) → high * 2 ^ 64 + low ≡ low + 256 ^ 8 * high

@@ -1,0 +1,6 @@
+use Rattle.press_last.proofs.Noting.{used-by}
+use borrow.Author.Rules.{rules}
+use Rattle.press_last.proofs.used_after.Goals as goal
+
+pub returns : goal.returns
+returns c = search used-by

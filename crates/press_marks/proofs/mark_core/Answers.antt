@@ -1,0 +1,26 @@
+use mathlib.Core.Path.{subst}
+use Rattle.press_marks.specs.Marking.{LinesBelow}
+use mathlib.Core.Path.{◌≡◌, refl, sym, ap, ◌∙◌}
+use Prim.Native.Nat.{ℕ, ◌+◌, ◌-◌, ◌<◌, ◌≤◌}
+use native.Mathlib.Omega.{arith}
+use lib.ListN.{length}
+use lib.ListN.{drop as after}
+use Rattle.press_spec.specs.Drops.{mark_lines}
+use Rattle.press_nodes.specs.Tables.{links_in}
+use Rattle.press_nodes.proofs.Tables.{links-length}
+use Rattle.press_marks.proofs.Cores.{mark_on, mark-done}
+use borrow.Author.Rules.{rules}
+use Rattle.press_marks.proofs.mark_core.Goals as goal
+
+pub loop-k-preserved : goal.loop-k-preserved
+loop-k-preserved c = let l = c.loop-k in
+    let s = links_in c.args.links.now in
+    let h : l.k < length s = rw (links-length c.args.links.now) (omega arith) in
+    (omega arith, c.mark_turn.auto.core ∙ l.invariant.1, ap (mark_lines (after (l.k + 1) s)) c.mark_turn.ensures ∙ mark_on s l.k l.core h ∙ l.invariant.2)
+
+pub returns : goal.returns
+returns c = let l = c.loop-k in
+    let s = links_in c.args.links.now in
+    mark-done s l.k l.core (rw (links-length c.args.links.now) (omega arith))
+    ∙ l.invariant.2
+    ∙ ap (mark_lines s) c.clear_marks.ensures

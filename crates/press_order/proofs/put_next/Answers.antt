@@ -1,0 +1,6 @@
+use Rattle.press_order.proofs.Placing.{stands-more}
+use borrow.Author.Rules.{rules}
+use Rattle.press_order.proofs.put_next.Goals as goal
+
+pub returns : goal.returns
+returns c = λ order f. stands-more c.index-i.ensures c.requires.0 f

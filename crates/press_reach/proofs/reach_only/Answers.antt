@@ -1,0 +1,6 @@
+use Rattle.press_reach.proofs.Reaches.{reach-start}
+use borrow.Author.Rules.{rules}
+use Rattle.press_reach.proofs.reach_only.Goals as goal
+
+pub returns : goal.returns
+returns c = search reach-start

@@ -1,0 +1,26 @@
+use Prim.Native.Nat.{◌-◌, ◌≤◌}
+use mathlib.Core.Path.{◌≡◌}
+use native.Mathlib.Omega.{arith}
+use lib.ListN.{length, replicate}
+use Rattle.base.specs.Folds.{rise}
+use Rattle.press_spec.specs.Rebuild.{built, rebuild_turn}
+use Rattle.press_nodes.specs.Tables.{nodes_in}
+use Rattle.press_nodes.specs.Fates.{fates_in}
+use Rattle.press_rebuild.proofs.Sounds.{rebuild-start, link-sound, stand_ins-low, rebuild-next, rebuild-done}
+use borrow.Author.Rules.{rules}
+use Rattle.press_rebuild.proofs.rebuild.Goals as goal
+
+pub loop-i-init : goal.loop-i-init
+loop-i-init c = (search rules, search rules, omega arith, omega arith, search rebuild-start)
+
+pub loop-i-preserved : goal.loop-i-preserved
+loop-i-preserved c = (search rules, omega arith, omega arith, omega arith, search rebuild-next)
+
+pub returns : goal.returns
+returns c = search rebuild-done
+
+pub rebuild_turn-requires-clause-clauses_len : goal.rebuild_turn-requires-clause-clauses_len
+rebuild_turn-requires-clause-clauses_len c = (omega arith, search stand_ins-low)
+
+pub rebuild_turn-requires-clause-n_in_bounds : goal.rebuild_turn-requires-clause-n_in_bounds
+rebuild_turn-requires-clause-n_in_bounds c = (omega arith, search link-sound, omega arith)

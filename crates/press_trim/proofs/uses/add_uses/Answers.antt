@@ -1,0 +1,11 @@
+use native.Mathlib.Omega.{arith}
+use lib.ListN.{length-set}
+use Rattle.press_trim.proofs.Used.{more-few, both-added}
+use borrow.Author.Rules.{rules}
+use Rattle.press_trim.proofs.uses.add_uses.Goals as goal
+
+pub returns : goal.returns
+returns c = let s = c in
+    let i = c.index-i in
+    let j = c.index-j in
+    λ m. both-added s.args.counts.now i.result j.result _ _ m i.ensures j.ensures (omega arith) (omega arith)

@@ -1,3 +1,0 @@
-pub mod Answers
-pub mod Editions
-pub mod Stopping
