@@ -2,7 +2,7 @@
 use mathlib.Core.Path.{◌≡◌, refl, sym, ap, ap₂, ◌∙◌}
 use mathlib.Core.Bool.{true, false}
 use mathlib.Core.List.{List}
-use Prim.Native.Nat.{ℕ, suc, ◌+◌, ◌-◌, ◌*◌, ◌/◌, ◌≤◌, ◌<◌, ◌^◌}
+use Prim.Native.Nat.{ℕ, suc, ◌+◌, ◌-◌, ◌/◌, ◌<◌}
 use native.Mathlib.Numerals.{add-one}
 use native.Mathlib.Omega.{arith}
 use lib.ListN.{length}
@@ -12,7 +12,6 @@ use Rattle.sheet.specs.declared.Verdict.{Verdict}
 use Rattle.sheet.specs.declared.Verdict.TheVariants.{Fine, Refused}
 use Rattle.sheet.specs.Checks.{check_lengths}
 use Rattle.sheet.specs.Fields.{record_at}
-use Rattle.sheet.proofs.Sizes.{record-whole, count-few}
 use Rattle.sheet.proofs.RecordBytes.{lent, lent_is}
 use Rattle.sheet.proofs.Fine.{Lengths, lengths-fine}
 use Rattle.tally.specs.Tally.{Tally, nothing}
@@ -32,29 +31,6 @@ pub record Goes (e : Edition) (rules sheet : List ℕ) (s₀ : State) (k : ℕ) 
 pub goes_none : (e : Edition) (rules sheet : List ℕ) (slots : List Slot) (t : Tally) → t ≡ nothing → Goes e rules sheet (state nothing slots) 0 (state t slots)
 goes_none e rules sheet slots t q =
     rw q (record { within = omega arith; left = λ m o. let all : m ≡ length sheet / record_bytes e = omega arith in rw all })
-
--- where a sheet's length fits a word, so does what is counted and pointed at on the way
-pub count_fits : (e : Edition) (n : ℕ) → n < 2 ^ 64 → n / record_bytes e < 2 ^ 64
-count_fits e n h = omega (arith, count-few e n, h)
-
-module _ (e : Edition) (n k : ℕ) where
-  pub at-fits : n < 2 ^ 64 → k < n / record_bytes e → record_bytes e * k < 2 ^ 64
-  at-fits h l = omega (arith, record-whole e k n l, h)
-
-  pub end_fits : n < 2 ^ 64 → k < n / record_bytes e → record_bytes e * k + record_bytes e < 2 ^ 64
-  end_fits h l = omega (arith, record-whole e k n l, h)
-
-  pub part-fits : n < 2 ^ 64 → k < n / record_bytes e → record_bytes e * k + record_bytes e - record_bytes e * k < 2 ^ 64
-  part-fits h l = omega (arith, end_fits h l)
-
-  pub number_fits : n < 2 ^ 64 → k < n / record_bytes e → k < 2 ^ 64
-  number_fits h l = omega (arith, l, count_fits e n h)
-
-  pub at-inside : k < n / record_bytes e → record_bytes e * k ≤ n
-  at-inside l = omega (arith, record-whole e k n l)
-
-pub at-end : (e : Edition) (k : ℕ) → record_bytes e * k ≤ record_bytes e * k + record_bytes e
-at-end e k = omega arith
 
 passed-fine : (v : Verdict) → passes v ≡ true → v ≡ Fine
 unfolding passes

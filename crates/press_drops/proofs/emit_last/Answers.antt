@@ -2,7 +2,6 @@ use mathlib.Core.Path.{sym, ◌∙◌}
 use Rattle.sheet.specs.Denote.{record_of}
 use Rattle.press_emit.specs.Emission.{emission_of}
 use Rattle.press_drops.proofs.Rooms.{last-kept, last-dropped, last-room}
-use borrow.Author.Rules.{rules}
 use Rattle.press_drops.proofs.emit_last.Goals as goal
 
 pub returns-then-used_after : goal.returns-then-used_after

@@ -1,15 +1,13 @@
-use mathlib.Core.Path.{◌≡◌, refl, sym, ap, subst, ◌∙◌}
-use Prim.Native.Nat.{◌+◌, ◌-◌, ◌<◌, ◌≤◌}
+use mathlib.Core.Path.{sym, ap, subst, ◌∙◌}
+use Prim.Native.Nat.{◌+◌, ◌<◌}
 use native.Mathlib.Omega.{arith}
 use lib.ListN.{length}
 use lib.ListN.{drop as after}
-use Rattle.tally.specs.Tally.{Tally}
 use Rattle.press_spec.specs.Drops.{with_drops}
 use Rattle.press_nodes.specs.Tables.{nodes_in}
-use Rattle.press_emit.specs.Emission.{Emission, emission, emission_of, unwritten, emit_all, Roomy}
+use Rattle.press_emit.specs.Emission.{Emission, emission_of, emit_all, Roomy}
 use Rattle.press_nodes.proofs.Tables.{nodes-length}
 use Rattle.press_drops.proofs.Rooms.{emit-room, emit-room-left, emit-on, emit-done}
-use borrow.Author.Rules.{rules}
 use Rattle.press_drops.proofs.emit_with.Goals as goal
 
 pub loop-k-preserved : goal.loop-k-preserved

@@ -1,14 +1,10 @@
-use mathlib.Core.Path.{◌≡◌, refl, sym, ap, subst, ◌∙◌}
-use Prim.Native.Nat.{◌+◌, ◌-◌, ◌<◌, ◌≤◌}
-use native.Mathlib.Omega.{arith}
+use mathlib.Core.Path.{◌≡◌}
+use Prim.Native.Nat.{◌-◌, ◌≤◌}
 use lib.ListN.{length}
 use lib.ListN.{drop as after}
-use Rattle.tally.specs.Tally.{Tally}
 use Rattle.press_spec.specs.Drops.{with_drops}
 use Rattle.press_nodes.specs.Tables.{nodes_in}
-use Rattle.press_emit.specs.Emission.{Emission, emission, emission_of, unwritten, emit_all, Roomy}
-use Rattle.press_nodes.proofs.Tables.{nodes-length}
-use Rattle.press_drops.proofs.Rooms.{emit-room, emit-room-left, emit-on, emit-done}
+use Rattle.press_emit.specs.Emission.{emission_of, unwritten, emit_all, Roomy}
 use Rattle.press_drops.proofs.emit_with.Given as goal
 
 abbrev pub invariant-loop-k : goal.invariant-loop-k

@@ -1,12 +1,8 @@
 use mathlib.Core.Path.{ap₂}
 use mathlib.Core.List.{List}
 use Prim.Native.Nat.{ℕ, ◌+◌}
-use native.Mathlib.Omega.{arith}
-use lib.ListN.{length}
 use Rattle.tally.specs.Tally.{Tally}
-use Rattle.sheet.proofs.Sizes.{record-whole}
 use Rattle.press_emit.specs.Emission.{emission, emit_record}
-use borrow.Author.Rules.{rules}
 use Rattle.press_emit.proofs.emit_record.Goals as goal
 
 pub returns : goal.returns

@@ -1,7 +1,6 @@
 use native.Mathlib.Omega.{arith}
 use Rattle.press_nodes.proofs.Found.{found-leaf, found-join, found-sound}
 use Rattle.press_last.proofs.Noting.{turn-leaf, turn-join}
-use borrow.Author.Rules.{rules}
 use Rattle.press_last.proofs.last_turn.Goals as goal
 
 pub returns-in_default : goal.returns-in_default

@@ -1,11 +1,9 @@
 use Prim.Native.Nat.{◌≤◌}
-use mathlib.Core.Path.{◌≡◌, refl}
+use mathlib.Core.Path.{◌≡◌}
 use lib.ListN.{length}
 use Rattle.base.specs.Folds.{fall}
-use Rattle.base.proofs.Folds.{fall-next}
 use Rattle.press_nodes.specs.Tables.{links_in}
 use Rattle.press_last.specs.LastUses.{last_turn}
-use Rattle.press_last.proofs.Noting.{cleared-long, last_done}
 use Rattle.press_last.proofs.last_uses.Given as goal
 
 abbrev pub invariant-loop-i : goal.invariant-loop-i

@@ -1,5 +1,4 @@
 use Rattle.press_last.proofs.Noting.{note-new, note-old}
-use borrow.Author.Rules.{rules}
 use Rattle.press_last.proofs.note_use.Goals as goal
 
 pub returns-then-last-at-eq0 : goal.returns-then-last-at-eq0

@@ -1,5 +1,4 @@
 use Rattle.press_last.proofs.Noting.{used-by}
-use borrow.Author.Rules.{rules}
 use Rattle.press_last.proofs.used_after.Goals as goal
 
 pub returns : goal.returns

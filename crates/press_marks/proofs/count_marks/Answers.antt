@@ -1,11 +1,9 @@
-use mathlib.Core.Path.{◌≡◌, sym, ap, ◌∙◌}
-use Prim.Native.Nat.{ℕ, ◌+◌, ◌-◌, ◌≤◌}
+use mathlib.Core.Path.{◌≡◌, sym, ap}
+use Prim.Native.Nat.{ℕ, ◌+◌, ◌-◌}
 use native.Mathlib.Omega.{arith}
-use lib.ListN.{length}
 use lib.ListN.{drop as after}
 use Rattle.press_spec.specs.Drops.{total}
 use Rattle.press_marks.proofs.Cores.{total-more, total-none}
-use borrow.Author.Rules.{rules}
 use Rattle.press_marks.proofs.count_marks.Goals as goal
 
 pub loop-i-init : goal.loop-i-init

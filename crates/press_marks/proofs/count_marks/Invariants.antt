@@ -1,10 +1,8 @@
-use mathlib.Core.Path.{◌≡◌, sym, ap, ◌∙◌}
-use Prim.Native.Nat.{ℕ, ◌+◌, ◌-◌, ◌≤◌}
-use native.Mathlib.Omega.{arith}
+use mathlib.Core.Path.{◌≡◌}
+use Prim.Native.Nat.{◌-◌, ◌≤◌}
 use lib.ListN.{length}
 use lib.ListN.{drop as after}
 use Rattle.press_spec.specs.Drops.{total}
-use Rattle.press_marks.proofs.Cores.{total-more, total-none}
 use Rattle.press_marks.proofs.count_marks.Given as goal
 
 abbrev pub invariant-loop-i : goal.invariant-loop-i

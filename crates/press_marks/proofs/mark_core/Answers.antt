@@ -1,7 +1,5 @@
-use mathlib.Core.Path.{subst}
-use Rattle.press_marks.specs.Marking.{LinesBelow}
-use mathlib.Core.Path.{◌≡◌, refl, sym, ap, ◌∙◌}
-use Prim.Native.Nat.{ℕ, ◌+◌, ◌-◌, ◌<◌, ◌≤◌}
+use mathlib.Core.Path.{ap, ◌∙◌}
+use Prim.Native.Nat.{◌+◌, ◌<◌}
 use native.Mathlib.Omega.{arith}
 use lib.ListN.{length}
 use lib.ListN.{drop as after}
@@ -9,7 +7,6 @@ use Rattle.press_spec.specs.Drops.{mark_lines}
 use Rattle.press_nodes.specs.Tables.{links_in}
 use Rattle.press_nodes.proofs.Tables.{links-length}
 use Rattle.press_marks.proofs.Cores.{mark_on, mark-done}
-use borrow.Author.Rules.{rules}
 use Rattle.press_marks.proofs.mark_core.Goals as goal
 
 pub loop-k-preserved : goal.loop-k-preserved

@@ -1,14 +1,9 @@
-use mathlib.Core.Path.{subst}
-use Rattle.press_marks.specs.Marking.{LinesBelow}
-use mathlib.Core.Path.{◌≡◌, refl, sym, ap, ◌∙◌}
-use Prim.Native.Nat.{ℕ, ◌+◌, ◌-◌, ◌<◌, ◌≤◌}
-use native.Mathlib.Omega.{arith}
+use mathlib.Core.Path.{◌≡◌}
+use Prim.Native.Nat.{◌-◌, ◌≤◌}
 use lib.ListN.{length}
 use lib.ListN.{drop as after}
 use Rattle.press_spec.specs.Drops.{mark_lines}
 use Rattle.press_nodes.specs.Tables.{links_in}
-use Rattle.press_nodes.proofs.Tables.{links-length}
-use Rattle.press_marks.proofs.Cores.{mark_on, mark-done}
 use Rattle.press_marks.proofs.mark_core.Given as goal
 
 abbrev pub invariant-loop-k : goal.invariant-loop-k

@@ -1,15 +1,5 @@
-use lib.ListN.{drop as after}
-use Prim.Native.Nat.{ℕ}
-use Rattle.press_spec.specs.Drops.{total}
 use Rattle.press_nodes.specs.Tables.{links_in}
-use mathlib.Core.Path.{subst}
-use Rattle.press_marks.specs.Marking.{LinesBelow}
-use Rattle.press_marks.proofs.Cores.{core_is, core-long, core-each, core-again, core-put}
-use lib.ListN.{length, length-append, length-drop}
-use mathlib.Core.Path.{sym, ap, ◌∙◌}
-use native.Mathlib.Omega.{arith}
-use lib.Seq.{length-take-le}
-use borrow.Author.Rules.{rules}
+use Rattle.press_marks.proofs.Cores.{core-long, core-each, core-again, core-put}
 use Rattle.press_marks.proofs.mark_lines.Goals as goal
 
 pub count_marks-requires : goal.count_marks-requires

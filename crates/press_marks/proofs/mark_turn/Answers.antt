@@ -6,7 +6,6 @@ use Rattle.press_nodes.specs.Tables.{links_in}
 use Rattle.press_nodes.proofs.Tables.{links-length}
 use Rattle.press_nodes.proofs.Found.{found-leaf, found-join}
 use Rattle.press_marks.proofs.Cores.{join-unmarked, line-within, line_marked}
-use borrow.Author.Rules.{rules}
 use Rattle.press_marks.proofs.mark_turn.Goals as goal
 
 pub returns-in_default : goal.returns-in_default

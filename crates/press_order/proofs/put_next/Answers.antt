@@ -1,5 +1,4 @@
 use Rattle.press_order.proofs.Placing.{stands-more}
-use borrow.Author.Rules.{rules}
 use Rattle.press_order.proofs.put_next.Goals as goal
 
 pub returns : goal.returns

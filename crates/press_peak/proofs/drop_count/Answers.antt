@@ -1,6 +1,5 @@
 use mathlib.Core.Path.{sym, ◌∙◌}
 use Rattle.press_peak.proofs.Peaking.{drop-none, drop-one}
-use borrow.Author.Rules.{rules}
 use Rattle.press_peak.proofs.drop_count.Goals as goal
 
 pub returns-then-used_after : goal.returns-then-used_after

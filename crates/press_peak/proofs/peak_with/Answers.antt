@@ -1,13 +1,10 @@
-use Prim.Native.Nat.{◌-◌, ◌≤◌, ◌<◌, max}
-use mathlib.Core.Path.{◌≡◌, refl}
+use Prim.Native.Nat.{◌<◌}
+use mathlib.Core.Path.{refl}
 use native.Mathlib.Omega.{arith}
 use lib.ListN.{length}
-use lib.ListN.{drop as after}
 use Rattle.press_nodes.specs.Tables.{links_in}
 use Rattle.press_nodes.proofs.Tables.{links-length}
-use Rattle.press_peak.specs.Peaks.{peak_of_links}
 use Rattle.press_peak.proofs.Peaking.{peak-next, peak-done}
-use borrow.Author.Rules.{rules}
 use Rattle.press_peak.proofs.peak_with.Goals as goal
 
 pub loop-k-preserved : goal.loop-k-preserved

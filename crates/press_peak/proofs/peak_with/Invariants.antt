@@ -1,12 +1,9 @@
-use Prim.Native.Nat.{◌-◌, ◌≤◌, ◌<◌, max}
-use mathlib.Core.Path.{◌≡◌, refl}
-use native.Mathlib.Omega.{arith}
+use Prim.Native.Nat.{◌-◌, ◌≤◌, max}
+use mathlib.Core.Path.{◌≡◌}
 use lib.ListN.{length}
 use lib.ListN.{drop as after}
 use Rattle.press_nodes.specs.Tables.{links_in}
-use Rattle.press_nodes.proofs.Tables.{links-length}
 use Rattle.press_peak.specs.Peaks.{peak_of_links}
-use Rattle.press_peak.proofs.Peaking.{peak-next, peak-done}
 use Rattle.press_peak.proofs.peak_with.Given as goal
 
 abbrev pub invariant-loop-k : goal.invariant-loop-k

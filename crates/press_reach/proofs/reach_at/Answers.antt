@@ -1,6 +1,5 @@
 use Rattle.press_reach.specs.Reaches.{reach_in}
 use Rattle.press_reach.proofs.Reaches.{reach-none, reach-some}
-use borrow.Author.Rules.{rules}
 use Rattle.press_reach.proofs.reach_at.Goals as goal
 
 pub returns-then-fates-i-eq-LOST : goal.returns-then-fates-i-eq-LOST

@@ -1,5 +1,4 @@
 use Rattle.press_reach.proofs.Reaches.{reach-start}
-use borrow.Author.Rules.{rules}
 use Rattle.press_reach.proofs.reach_only.Goals as goal
 
 pub returns : goal.returns

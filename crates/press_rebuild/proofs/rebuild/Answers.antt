@@ -1,11 +1,4 @@
-use Prim.Native.Nat.{◌-◌, ◌≤◌}
-use mathlib.Core.Path.{◌≡◌}
 use native.Mathlib.Omega.{arith}
-use lib.ListN.{length, replicate}
-use Rattle.base.specs.Folds.{rise}
-use Rattle.press_spec.specs.Rebuild.{built, rebuild_turn}
-use Rattle.press_nodes.specs.Tables.{nodes_in}
-use Rattle.press_nodes.specs.Fates.{fates_in}
 use Rattle.press_rebuild.proofs.Sounds.{rebuild-start, link-sound, stand_ins-low, rebuild-next, rebuild-done}
 use borrow.Author.Rules.{rules}
 use Rattle.press_rebuild.proofs.rebuild.Goals as goal

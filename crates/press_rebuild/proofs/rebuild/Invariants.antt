@@ -1,12 +1,10 @@
 use Prim.Native.Nat.{◌-◌, ◌≤◌}
 use mathlib.Core.Path.{◌≡◌}
-use native.Mathlib.Omega.{arith}
 use lib.ListN.{length, replicate}
 use Rattle.base.specs.Folds.{rise}
 use Rattle.press_spec.specs.Rebuild.{built, rebuild_turn}
 use Rattle.press_nodes.specs.Tables.{nodes_in}
 use Rattle.press_nodes.specs.Fates.{fates_in}
-use Rattle.press_rebuild.proofs.Sounds.{rebuild-start, link-sound, stand_ins-low, rebuild-next, rebuild-done}
 use Rattle.press_rebuild.proofs.rebuild.Given as goal
 
 abbrev pub invariant-loop-i : goal.invariant-loop-i

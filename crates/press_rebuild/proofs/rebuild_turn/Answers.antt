@@ -1,5 +1,4 @@
 use Rattle.press_rebuild.proofs.Rebuilds.{turn-lost, turn-renews}
-use borrow.Author.Rules.{rules}
 use Rattle.press_rebuild.proofs.rebuild_turn.Goals as goal
 
 pub returns-in_default : goal.returns-in_default

@@ -2,7 +2,6 @@ use native.Mathlib.Omega.{arith}
 use Rattle.press_nodes.proofs.Tables.{given-there, step-there}
 use Rattle.press_nodes.proofs.Found.{found-leaf, found-join}
 use Rattle.press_rebuild.proofs.Rebuilds.{node-stands, node-renews}
-use borrow.Author.Rules.{rules}
 use Rattle.press_rebuild.proofs.renew_node.Goals as goal
 
 pub returns-in_default : goal.returns-in_default

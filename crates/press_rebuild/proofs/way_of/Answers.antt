@@ -2,7 +2,6 @@ use Rattle.clause.specs.Clauses.{holds}
 use Rattle.press_spec.specs.Rebuild.{way_of}
 use Rattle.press_nodes.specs.Fates.{cut_in}
 use Rattle.press_rebuild.specs.Ways.{way_in}
-use borrow.Author.Rules.{rules}
 use Rattle.press_rebuild.proofs.way_of.Goals as goal
 
 pub returns-in-Left : goal.returns-in-Left

@@ -1,15 +1,8 @@
-use Prim.Native.Nat.{ℕ, suc, ◌-◌, ◌≤◌}
-use mathlib.Core.Path.{◌≡◌, refl}
+use mathlib.Core.Path.{refl}
 use native.Mathlib.Omega.{arith}
-use lib.ListN.{length}
-use Rattle.base.specs.Folds.{fall}
 use Rattle.base.proofs.Folds.{fall-next}
-use Rattle.press_spec.specs.Recycle.{fit_of, recycle_turn}
-use Rattle.press_nodes.specs.Tables.{links_in, clause_words}
-use Rattle.press_reach.specs.Reaches.{reaches_in}
-use Rattle.press_recycle.specs.Passes.{count_in, Fated}
+use Rattle.press_spec.specs.Recycle.{recycle_turn}
 use Rattle.press_recycle.proofs.Recycles.{fated-start, fates-done}
-use borrow.Author.Rules.{rules}
 use Rattle.press_recycle.proofs.recycle.Goals as goal
 
 pub loop-i-init : goal.loop-i-init

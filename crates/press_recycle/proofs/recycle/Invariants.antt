@@ -1,14 +1,11 @@
-use Prim.Native.Nat.{ℕ, suc, ◌-◌, ◌≤◌}
-use mathlib.Core.Path.{◌≡◌, refl}
-use native.Mathlib.Omega.{arith}
+use Prim.Native.Nat.{◌≤◌}
+use mathlib.Core.Path.{◌≡◌}
 use lib.ListN.{length}
 use Rattle.base.specs.Folds.{fall}
-use Rattle.base.proofs.Folds.{fall-next}
 use Rattle.press_spec.specs.Recycle.{fit_of, recycle_turn}
 use Rattle.press_nodes.specs.Tables.{links_in, clause_words}
 use Rattle.press_reach.specs.Reaches.{reaches_in}
 use Rattle.press_recycle.specs.Passes.{count_in, Fated}
-use Rattle.press_recycle.proofs.Recycles.{fated-start, fates-done}
 use Rattle.press_recycle.proofs.recycle.Given as goal
 
 abbrev pub invariant-loop-i : goal.invariant-loop-i

@@ -1,10 +1,6 @@
-use Prim.Native.Nat.{ℕ, ◌-◌, ◌*◌, ◌≤◌, ◌<◌}
-use mathlib.Core.Path.{◌≡◌, refl}
+use mathlib.Core.Path.{refl}
 use mathlib.Core.Bool.{false}
-use native.Mathlib.Omega.{arith}
-use Rattle.clause.specs.Denote.{word}
-use Rattle.press_scores.specs.Rows.{row_words, in_row}
-use Rattle.press_scores.proofs.Found.{word-empty, word_first, row-empty}
+use Rattle.press_scores.proofs.Found.{word-empty, word_first}
 use borrow.Author.Rules.{rules}
 use Rattle.press_scores.proofs.first_in.Goals as goal
 

@@ -1,5 +1,4 @@
 use Rattle.press_scores.proofs.Rows.{bit-put}
-use borrow.Author.Rules.{rules}
 use Rattle.press_scores.proofs.put_bit.Goals as goal
 
 pub returns : goal.returns

@@ -1,5 +1,4 @@
 use Rattle.press_scores.proofs.Rows.{score-put}
-use borrow.Author.Rules.{rules}
 use Rattle.press_scores.proofs.put_score.Goals as goal
 
 pub returns : goal.returns

@@ -1,6 +1,5 @@
 use native.Mathlib.Omega.{arith}
 use Rattle.press_scores.proofs.Rows.{or-bit, xor-bit}
-use borrow.Author.Rules.{rules}
 use Rattle.press_scores.proofs.with_bit.Goals as goal
 
 pub returns-then-on : goal.returns-then-on

@@ -1,7 +1,5 @@
-use Rattle.press_users.proofs.Chains.{none-chained, all-chained}
 use Prim.Native.Nat.{◌-◌, ◌≤◌}
-use mathlib.Core.Path.{◌≡◌, ◌∙◌}
-use native.Mathlib.Omega.{arith}
+use mathlib.Core.Path.{◌≡◌}
 use lib.ListN.{length}
 use Rattle.press_nodes.specs.Tables.{links_in}
 use Rattle.press_users.specs.Chains.{Chain}

@@ -1,7 +1,6 @@
 use native.Mathlib.Omega.{arith}
 use Rattle.press_nodes.proofs.Found.{found-leaf, found-join, found-sound}
 use Rattle.press_users.proofs.Chains.{parent-none, parent-left, parent-right}
-use borrow.Author.Rules.{rules}
 use Rattle.press_users.proofs.parent_on.Goals as goal
 
 pub returns-in_default : goal.returns-in_default

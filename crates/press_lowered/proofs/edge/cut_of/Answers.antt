@@ -3,7 +3,6 @@ use native.Mathlib.Omega.{arith}
 use Rattle.press_nodes.specs.Fates.{cut_in}
 use Rattle.press_nodes.proofs.Found.{found-leaf, found-join}
 use Rattle.press_lowered.proofs.Edges.{cut-leaf, cuts-left, cuts-right, cuts-none}
-use borrow.Author.Rules.{rules}
 use Rattle.press_lowered.proofs.edge.cut_of.Goals as goal
 
 pub returns-in_default : goal.returns-in_default

@@ -1,6 +1,5 @@
 use mathlib.Core.Path.{ap, subst}
 use Rattle.press_lowered.specs.Literals.{literal_in, Narrow}
-use borrow.Author.Rules.{rules}
 use Rattle.press_lowered.proofs.literal.adding.Goals as goal
 
 pub with_plus-requires : goal.with_plus-requires

@@ -1,6 +1,5 @@
 use Rattle.clause.specs.Clauses.{holds}
 use Rattle.press_lowered.specs.Literals.{literal_in}
-use borrow.Author.Rules.{rules}
 use Rattle.press_lowered.proofs.literal.holds.Goals as goal
 
 pub returns-in-Plus : goal.returns-in-Plus

@@ -1,6 +1,5 @@
 use Rattle.clause.specs.Clauses.{same_literal}
 use Rattle.press_lowered.specs.Literals.{literal_in}
-use borrow.Author.Rules.{rules}
 use Rattle.press_lowered.proofs.literal.same.Goals as goal
 
 pub returns-in-Plus-m : goal.returns-in-Plus-m

@@ -1,8 +1,5 @@
-use Prim.Native.Nat.{◌≤◌}
-use mathlib.Core.Path.{◌≡◌, refl, sym, ◌∙◌}
+use mathlib.Core.Path.{sym, ◌∙◌}
 use native.Mathlib.Omega.{arith}
-use Rattle.clause.specs.Denote.{literals_of}
-use Rattle.press_spec.specs.Lower.{single}
 use Rattle.press_lowered.specs.Literals.{literal_in}
 use Rattle.press_lowered.specs.Table.{lowered_in}
 use Rattle.press_lowered.proofs.Searched.{single-plus, single-minus, single-past, single-none}

@@ -1,11 +1,7 @@
 use Prim.Native.Nat.{◌≤◌}
-use mathlib.Core.Path.{◌≡◌, refl, sym, ◌∙◌}
-use native.Mathlib.Omega.{arith}
+use mathlib.Core.Path.{◌≡◌}
 use Rattle.clause.specs.Denote.{literals_of}
 use Rattle.press_spec.specs.Lower.{single}
-use Rattle.press_lowered.specs.Literals.{literal_in}
-use Rattle.press_lowered.specs.Table.{lowered_in}
-use Rattle.press_lowered.proofs.Searched.{single-plus, single-minus, single-past, single-none}
 use Rattle.press_lowered.proofs.single.single.Given as goal
 
 abbrev pub invariant-loop-v : goal.invariant-loop-v

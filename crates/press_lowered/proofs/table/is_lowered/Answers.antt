@@ -1,6 +1,5 @@
 use Rattle.press_spec.specs.Lower.{is_lowered}
 use Rattle.press_lowered.specs.Table.{lowered_in}
-use borrow.Author.Rules.{rules}
 use Rattle.press_lowered.proofs.table.is_lowered.Goals as goal
 
 pub returns-in-Staying : goal.returns-in-Staying

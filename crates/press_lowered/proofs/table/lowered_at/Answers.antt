@@ -1,6 +1,5 @@
 use mathlib.Core.Path.{◌∙◌}
 use Rattle.press_lowered.proofs.Tabled.{low-at}
-use borrow.Author.Rules.{rules}
 use Rattle.press_lowered.proofs.table.lowered_at.Goals as goal
 
 pub returns : goal.returns

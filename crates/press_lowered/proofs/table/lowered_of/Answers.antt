@@ -1,7 +1,6 @@
 use borrow.Author.Tests.{eq-eqb, ne_eqb}
 use Rattle.press_lowered.specs.Literals.{literal_in}
 use Rattle.press_lowered.specs.Table.{lowered_in, lowered_of}
-use borrow.Author.Rules.{rules}
 use Rattle.press_lowered.proofs.table.lowered_of.Goals as goal
 
 pub returns-then-number-eq-PLUS : goal.returns-then-number-eq-PLUS

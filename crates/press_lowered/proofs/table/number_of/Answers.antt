@@ -1,7 +1,6 @@
 use native.Mathlib.Omega.{arith}
 use Rattle.press_lowered.specs.Literals.{literal_in}
 use Rattle.press_lowered.proofs.Tabled.{plus-number, minus_number}
-use borrow.Author.Rules.{rules}
 use Rattle.press_lowered.proofs.table.number_of.Goals as goal
 
 pub returns-in-Plus : goal.returns-in-Plus

@@ -1,5 +1,4 @@
 use Rattle.press_lowered.proofs.Tabled.{low-set}
-use borrow.Author.Rules.{rules}
 use Rattle.press_lowered.proofs.table.put_lowered.Goals as goal
 
 pub returns : goal.returns

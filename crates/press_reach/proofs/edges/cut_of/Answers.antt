@@ -1,7 +1,6 @@
 use Rattle.clause.specs.Clauses.{holds}
 use Rattle.press_spec.specs.Recycle.{cut_of}
 use Rattle.press_nodes.specs.Fates.{cut_in}
-use borrow.Author.Rules.{rules}
 use Rattle.press_reach.proofs.edges.cut_of.Goals as goal
 
 pub returns-then-has : goal.returns-then-has

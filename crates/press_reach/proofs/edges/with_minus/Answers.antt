@@ -1,7 +1,6 @@
 use Rattle.clause.specs.Clauses.{adding}
 use Rattle.clause.specs.Denote.{width}
 use Rattle.clause.proofs.Words.{with_below-with}
-use borrow.Author.Rules.{rules}
 use Rattle.press_reach.proofs.edges.with_minus.Goals as goal
 
 pub returns : goal.returns

@@ -1,5 +1,4 @@
 use Rattle.press_spec.specs.Recycle.{reset, fit_of}
-use borrow.Author.Rules.{rules}
 use Rattle.press_reach.proofs.fit.fitted.Goals as goal
 
 pub returns-in-Reset : goal.returns-in-Reset

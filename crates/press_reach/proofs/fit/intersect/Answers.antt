@@ -1,6 +1,5 @@
 use Rattle.press_spec.specs.Recycle.{intersect}
 use Rattle.press_reach.specs.Reaches.{reach_in}
-use borrow.Author.Rules.{rules}
 use Rattle.press_reach.proofs.fit.intersect.Goals as goal
 
 pub returns-in-Unreached : goal.returns-in-Unreached

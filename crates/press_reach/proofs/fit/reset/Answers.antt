@@ -1,6 +1,5 @@
 use borrow.Author.Tests.{lt-ltb, le-ltb}
 use Rattle.press_spec.specs.Recycle.{reset}
-use borrow.Author.Rules.{rules}
 use Rattle.press_reach.proofs.fit.reset.Goals as goal
 
 pub returns-then-uses-lt2 : goal.returns-then-uses-lt2

@@ -1,10 +1,7 @@
-use Rattle.press_trim.proofs.Trims.{trim-long, trim-done}
 use Prim.Native.Nat.{◌≤◌}
-use mathlib.Core.Path.{◌≡◌, refl}
-use native.Mathlib.Omega.{arith}
+use mathlib.Core.Path.{◌≡◌}
 use lib.ListN.{length}
 use Rattle.base.specs.Folds.{fall}
-use Rattle.base.proofs.Folds.{fall-next}
 use Rattle.press_nodes.specs.Tables.{links_in}
 use Rattle.press_spec.specs.Trim.{trim_turn}
 use Rattle.press_trim.proofs.trim.trim.Given as goal

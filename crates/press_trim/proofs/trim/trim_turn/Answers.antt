@@ -2,7 +2,6 @@ use native.Mathlib.Omega.{arith}
 use lib.ListN.{length-set}
 use Rattle.press_nodes.proofs.Found.{found-leaf, found-join, found-sound}
 use Rattle.press_trim.proofs.Trims.{trim-past, trim-leaf, trim-join}
-use borrow.Author.Rules.{rules}
 use Rattle.press_trim.proofs.trim.trim_turn.Goals as goal
 
 pub returns-then-kept-i-eq0 : goal.returns-then-kept-i-eq0

@@ -1,7 +1,5 @@
 use native.Mathlib.Omega.{arith}
-use lib.ListN.{length-set}
-use Rattle.press_trim.proofs.Used.{more-few, both-added}
-use borrow.Author.Rules.{rules}
+use Rattle.press_trim.proofs.Used.{both-added}
 use Rattle.press_trim.proofs.uses.add_uses.Goals as goal
 
 pub returns : goal.returns

@@ -2,7 +2,6 @@ use native.Mathlib.Omega.{arith}
 use Rattle.press_used.proofs.Tabled.{once-plus, once-minus, often-plus, often-minus}
 use Rattle.press_lowered.specs.Literals.{literal_in}
 use Rattle.press_used.specs.Table.{use_in, use_of}
-use borrow.Author.Rules.{rules}
 use Rattle.press_used.proofs.table.number_of.Goals as goal
 
 pub returns-in-Unused : goal.returns-in-Unused

@@ -1,7 +1,6 @@
 use mathlib.Core.Path.{◌∙◌}
 use native.Mathlib.Omega.{arith}
 use Rattle.press_used.proofs.Tabled.{used-more}
-use borrow.Author.Rules.{rules}
 use Rattle.press_used.proofs.table.use_too.Goals as goal
 
 pub returns : goal.returns

@@ -1,6 +1,5 @@
 use mathlib.Core.Path.{◌∙◌}
 use Rattle.press_used.proofs.Tabled.{use-there}
-use borrow.Author.Rules.{rules}
 use Rattle.press_used.proofs.table.used_at.Goals as goal
 
 pub returns : goal.returns

@@ -1,7 +1,6 @@
 use borrow.Author.Tests.{ne_eqb}
 use Rattle.press_lowered.specs.Literals.{literal_in}
 use Rattle.press_used.specs.Table.{use_in, use_of}
-use borrow.Author.Rules.{rules}
 use Rattle.press_used.proofs.table.used_of.Goals as goal
 
 pub returns-then-kind-eq-ONCE_PLUS : goal.returns-then-kind-eq-ONCE_PLUS

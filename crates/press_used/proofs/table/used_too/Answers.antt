@@ -1,9 +1,7 @@
 use Rattle.std.proofs.Common.{arith}
 use Rattle.std.proofs.lemmas.Grind.{common_steps}
-use mathlib.Core.Logic.{⊎_elim}
 use Rattle.press_spec.specs.Univalents.{used_too}
 use Rattle.press_used.specs.Table.{use_in}
-use borrow.Author.Rules.{rules}
 use Rattle.press_used.proofs.table.used_too.Goals as goal
 
 pub returns-then-same : goal.returns-then-same

@@ -1,8 +1,7 @@
 use Rattle.press_lowered.specs.Literals.{literal_in}
 use native.Mathlib.Omega.{arith}
 use Rattle.press_nodes.proofs.Found.{found-leaf, found-join, found-sound}
-use Rattle.press_used.proofs.Walked.{use-past, use-leaf, use-join}
-use borrow.Author.Rules.{rules}
+use Rattle.press_used.proofs.Walked.{use-leaf, use-join}
 use Rattle.press_used.proofs.walk.use_turn.Goals as goal
 
 pub returns-in_default : goal.returns-in_default

@@ -1,10 +1,9 @@
 use Prim.Native.Nat.{ℕ, ◌≤◌}
 use mathlib.Core.Path.{◌≡◌}
-use native.Mathlib.Omega.{arith}
 use lib.ListN.{length}
 use Rattle.press_nodes.specs.Tables.{links_in}
 use Rattle.press_used.specs.Table.{use_at}
-use Rattle.press_used.proofs.Walked.{used_after, used_start, used-next, used-done}
+use Rattle.press_used.proofs.Walked.{used_after}
 use Rattle.press_used.proofs.walk.used_on.Given as goal
 
 abbrev pub invariant-loop-i : goal.invariant-loop-i
