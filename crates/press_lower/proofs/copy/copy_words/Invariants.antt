@@ -2,7 +2,6 @@ use Prim.Native.Nat.{◌-◌, ◌≤◌}
 use mathlib.Core.Path.{◌≡◌, refl}
 use native.Mathlib.Omega.{arith}
 use lib.ListN.{length, take, length-set}
-use Rattle.press_lower.proofs.Copies.{copy-next, copy_done}
 use Rattle.press_lower.proofs.copy.copy_words.Given as goal
 
 abbrev pub invariant-loop-i : goal.invariant-loop-i
