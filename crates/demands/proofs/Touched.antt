@@ -11,7 +11,8 @@ use Rattle.sheet.specs.Records.{given, step, Record, node, drop}
 use Rattle.sheet.specs.Fields.{rule_lines}
 use Rattle.sheet.specs.Proper.{record_in}
 use Rattle.sheet.proofs.Fine.{Lines, Lengths, table-fine}
-use Rattle.replay_spec.proofs.Lines.{SameLine, replay-alike, after-alike, answer-alike}
+use Rattle.replay_spec.proofs.Lines.{SameLine}
+use Rattle.replay_spec.proofs.Alike.{replay-alike, after-alike, answer-alike}
 use Rattle.press_spec.specs.declared.Plan.{Plan}
 use Rattle.press_spec.specs.Drops.{with_drops}
 use Rattle.press_spec.specs.Press.{Call, Report, pressed}

@@ -9,3 +9,4 @@ pub mod Refuses
 pub mod Sound
 pub mod Plenty
 pub mod Lines
+pub mod Alike

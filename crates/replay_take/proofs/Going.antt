@@ -14,9 +14,9 @@ use Rattle.sheet.specs.Checks.{check_lengths}
 use Rattle.sheet.specs.Fields.{record_at}
 use Rattle.sheet.proofs.RecordBytes.{lent, lent_is}
 use Rattle.sheet.proofs.Fine.{Lengths, lengths-fine}
-use Rattle.tally.specs.Tally.{Tally}
-use Rattle.replay_spec.specs.Slots.{Place, look, last_of}
-use Rattle.replay_spec.specs.Step.{State, turn, Judged, judged, by_turn, passes, fits}
+use Rattle.tally.specs.Tally.{Tally, nothing}
+use Rattle.replay_spec.specs.Slots.{Slot, Place, look, last_of}
+use Rattle.replay_spec.specs.Step.{State, state, turn, Judged, judged, by_turn, passes, fits}
 use Rattle.replay_spec.specs.Replay.{Answer, run, ending, stopped, ran, ran_through}
 use Rattle.replay_spec.proofs.Stopped.{stopped-goes-on, stopped-refused}
 use Rattle.replay_spec.proofs.Steps.{Within, record-fits, turn-goes-on, turn-refuses}
@@ -27,6 +27,10 @@ use Rattle.replay_answer.proofs.Ending.{ends-in}
 pub record Goes (e : Edition) (rules sheet : List ℕ) (s₀ : State) (k : ℕ) (s : State) : Type 0 where
   pub within : Within k s.tally
   pub left : (m : ℕ) → k + m ≡ length sheet / record_bytes e → ran_through e rules sheet (length sheet / record_bytes e) 0 s₀ ≡ ran_through e rules sheet m k s
+
+pub goes_none : (e : Edition) (rules sheet : List ℕ) (slots : List Slot) (t : Tally) → t ≡ nothing → Goes e rules sheet (state nothing slots) 0 (state t slots)
+goes_none e rules sheet slots t q =
+    rw q (record { within = omega arith; left = λ m o. let all : m ≡ length sheet / record_bytes e = omega arith in rw all })
 
 passed-fine : (v : Verdict) → passes v ≡ true → v ≡ Fine
 unfolding passes

@@ -1,4 +1,5 @@
-use Rattle.std.proofs.Common.{sym, ◌∙◌}
+use Rattle.std.proofs.Common.{sym, ap, ◌∙◌}
+use Rattle.replay_spec.specs.Step.{passes}
 use Rattle.replay.proofs.Whole.{fine-is, comes-fine, comes-refused}
 use Rattle.replay.proofs.replay.Goals as goal
 
@@ -17,7 +18,7 @@ returns-then-passes c =
     c.clear-then-passes.new.slots
     _
     _
-    (rw (← c.check_lengths-verdict.ensures) (sym c.passes.ensures ∙ c.if-passes.true))
+    (ap passes (sym c.check_lengths-verdict.ensures) ∙ sym c.passes.ensures ∙ c.if-passes.true)
     c.clear.ensures
     c.run-ran.ensures
     c.run-ran.auto.slots

@@ -7,8 +7,11 @@ use Rattle.replay_spec.specs.Step.{state}
 use Rattle.replay_spec.specs.Replay.{Answer, ran}
 use Rattle.replay_slots.specs.Said.{row_of}
 use Rattle.replay_answer.specs.Answers.{ended}
-use Rattle.replay_take.proofs.Going.{goes-all, next_fits, goes_on, goes-no-more}
+use Rattle.replay_take.proofs.Going.{goes_none, goes-all, next_fits, goes_on, goes-no-more}
 use Rattle.replay_run.proofs.run.Goals as goal
+
+pub loop-k-init : goal.loop-k-init
+loop-k-init c = record { few = omega arith; goes = goes_none _ _ _ _ _ c.nothing-t.ensures }
 
 pub take-verdict-requires : goal.take-verdict-requires
 take-verdict-requires c =
