@@ -238,9 +238,6 @@ def lengths(t):
 
 def in_little_stack(t):
     """The deepest sheet with the longest table, in the stack that docs/MEMORY.md states."""
-    if "qemu" in t.words[0]:
-        print("not run: little stack (the emulator gives the program one of its own)")
-        return
     rules = DEEP_RULES.ljust(1024 * 16, b"\0")
     t.answers("deep, in little stack", files(DEEP, rules), DEEP_OK, DEEP_OUT, before=stack_limit(STACK))
     old = files(DEEP, rules, pressed=OLD)

@@ -1,9 +1,8 @@
 """For a child, before it runs: calls of the system that fail, calls that are interrupted, and limits."""
 import contextlib, ctypes, errno, fcntl, os, resource, select, signal, socket, struct, subprocess, threading
 
-# the numbers of the system's calls on the machine that the emulator, if there is one, runs on
+# the numbers of the system's calls on the machine that the program is built for
 CALLS = {
-    "aarch64": {"open": [56], "read": [63], "write": [64], "close": [57], "fsync": [82], "rename": [38, 276], "seccomp": [277]},
     "x86_64": {"open": [2, 257], "read": [0], "write": [1], "close": [3], "fsync": [74], "rename": [82, 264, 316], "seccomp": [317]},
 }
 

@@ -1,5 +1,5 @@
 #!/usr/bin/env python3
-"""program.py [--seed S] [--count N]: runs the built program (target/bin/tempuquile) in folders made for it.
+"""program.py [--seed S] [--count N]: runs the built program (crates/tempuquile/out/tempuquile) in folders made for it.
 
 Each case is a folder with files; what the program prints, the bytes of pressed.bin and every name left in the folder are checked. N random
 cases of the second program are compared with it. Nothing here runs as root: where root starts it, a child becomes nobody first.
@@ -19,18 +19,6 @@ def fail(text):
     sys.exit(2)
 
 
-def program_words(room):
-    """How a program of the kit runs: under the kit's loader and C library, on Arm in the kit's emulator."""
-    rt = shutil.which("rt")
-    if not rt:
-        fail("Rattle's kit (rt) is not on the path")
-    kit = pathlib.Path(os.environ.get("RATTLE_HOME") or pathlib.Path(rt).resolve().parent.parent)
-    tools = kit / "on" / os.uname().machine / "toolchain"
-    emulator = tools / "bin/qemu-x86_64"
-    words = [tools / "lib/ld-linux-x86-64.so.2", "--library-path", tools / "lib", room / "tempuquile"]
-    return [str(w) for w in ([emulator] if emulator.exists() else []) + words]
-
-
 def become_nobody():
     os.setgroups([])
     os.setgid(NOBODY)
@@ -48,7 +36,7 @@ def small_disk(room):
 
 
 def run_cases(room, disk, seed, count):
-    tests = folders.Tests(program_words(room), room / "reference", room / "work")
+    tests = folders.Tests([str(room / "tempuquile")], room / "reference", room / "work")
     cases.run_all(tests, disk)
     cases.compare(tests, seed, count)
     return tests.finish()
@@ -59,9 +47,9 @@ def main():
     words.add_argument("--seed", type=int, default=1)
     words.add_argument("--count", type=int, default=300)
     args = words.parse_args()
-    program = ROOT / "target/bin/tempuquile"
+    program = ROOT / "crates/tempuquile/out/tempuquile"
     if not program.exists():
-        fail("the program is not built: rt check tempuquile")
+        fail("the program is not built: rt run in crates/tempuquile, or ./press")
     room = pathlib.Path(tempfile.mkdtemp(prefix="tempuquile-"))
     disk = None
     try:

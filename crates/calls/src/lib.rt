@@ -2,7 +2,9 @@
 // is closed where it is dropped.
 #![tactic(auto)]
 
+ghost use Rattle.std.specs.Prelude.{IsTrue};
 ghost use Rattle.std.specs.Io.{ReadsAtMost, WritesAtMost};
+ghost use Rattle.std.specs.Io.KnownBytes.{Appends, ReadConsumes, WriteAppends};
 
 use std::fs::{Files, OpenFile, OpenOptions};
 use std::io::{Error, ErrorKind, Read, Write};
@@ -44,7 +46,8 @@ pub fn open<R: Files>(rt: &R, path: &[u8], how: How) -> io::Result<R::File> {
 
 // How many bytes were read, 0 at the end of the file.
 pub fn read<R: Read>(file: &mut R, buffer: &mut [u8]) -> io::Result<usize>
-    ensures { ReadsAtMost result buffer.new }
+    ensures bound { ReadsAtMost result buffer.new }
+    ensures bytes { ReadConsumes (R.remaining file.old) (R.remaining file.new) result buffer.new }
 {
     let mut turns = TURNS;
     while 0 < turns {
@@ -59,7 +62,8 @@ pub fn read<R: Read>(file: &mut R, buffer: &mut [u8]) -> io::Result<usize>
 
 // How many bytes were written.
 fn write<W: Write>(file: &mut W, bytes: &[u8]) -> io::Result<usize>
-    ensures { WritesAtMost result bytes.now }
+    ensures bound { WritesAtMost result bytes.now }
+    ensures appended { WriteAppends (W.contents file.old) (W.contents file.new) result bytes.now }
 {
     let mut turns = TURNS;
     while 0 < turns {
@@ -73,7 +77,9 @@ fn write<W: Write>(file: &mut W, bytes: &[u8]) -> io::Result<usize>
 }
 
 // Whether all of the bytes were written.
-pub fn write_all<W: Write>(file: &mut W, bytes: &[u8]) -> bool {
+pub fn write_all<W: Write>(file: &mut W, bytes: &[u8]) -> bool
+    ensures { IsTrue result → Appends (W.contents file.old) (W.contents file.new) bytes.now }
+{
     let mut done = 0;
     while done < bytes.len() {
         let Ok(put) = write(file, &bytes[done..]) else {

@@ -91,54 +91,54 @@ fn header_of(bytes: &[u8; HEADER]) -> Header {
     }
 }
 
-fn print_edition(edition: Edition) {
+fn print_edition(rt: &impl Print, edition: Edition) {
     match edition {
-        Edition::Narrow => text::print(b" narrow"),
-        Edition::Wide => text::print(b" wide"),
+        Edition::Narrow => text::print(rt, b" narrow"),
+        Edition::Wide => text::print(rt, b" wide"),
     }
 }
 
-fn print_press(recycling: Recycling) {
+fn print_press(rt: &impl Print, recycling: Recycling) {
     match recycling {
-        Recycling::Reset => text::print(b" press reset"),
-        Recycling::Intersection => text::print(b" press intersection"),
+        Recycling::Reset => text::print(rt, b" press reset"),
+        Recycling::Intersection => text::print(rt, b" press intersection"),
     }
 }
 
-fn print_lowerable(which: Lowerable) {
+fn print_lowerable(rt: &impl Print, which: Lowerable) {
     match which {
-        Lowerable::Units => text::print(b" units"),
-        Lowerable::Univalents => text::print(b" univalents"),
+        Lowerable::Units => text::print(rt, b" units"),
+        Lowerable::Univalents => text::print(rt, b" univalents"),
     }
 }
 
-fn print_lowering(lowering: Lowering) {
+fn print_lowering(rt: &impl Print, lowering: Lowering) {
     match lowering {
-        Lowering::Nothing => text::print(b" nothing"),
-        Lowering::Of(which) => print_lowerable(which),
+        Lowering::Nothing => text::print(rt, b" nothing"),
+        Lowering::Of(which) => print_lowerable(rt, which),
     }
 }
 
-fn print_header(number: u64, head: Header) {
+fn print_header(rt: &impl Print, number: u64, head: Header) {
     let edition = head.edition;
-    text::print_number(b"case ", number);
-    print_edition(edition);
+    text::print_number(rt, b"case ", number);
+    print_edition(rt, edition);
     if head.kind == 0 {
         let recycling = head.recycling;
         let lowering = head.lowering;
-        print_press(recycling);
-        print_lowering(lowering);
+        print_press(rt, recycling);
+        print_lowering(rt, lowering);
     } else {
-        text::print(b" replay");
+        text::print(rt, b" replay");
     }
-    text::print_number(b" ", head.sheet as u64);
-    text::print_number(b" ", head.rules as u64);
-    text::print_number(b" ", head.room as u64);
-    text::print_number(b" ", head.marks as u64);
-    text::print(b"\n");
+    text::print_number(rt, b" ", head.sheet as u64);
+    text::print_number(rt, b" ", head.rules as u64);
+    text::print_number(rt, b" ", head.room as u64);
+    text::print_number(rt, b" ", head.marks as u64);
+    text::print(rt, b"\n");
 }
 
-fn run_inputs(head: Header, sheet: &[u8], rules: &[u8]) {
+fn run_inputs(rt: &impl Print, head: Header, sheet: &[u8], rules: &[u8]) {
     let edition = head.edition;
     if head.kind == 0 {
         let recycling = head.recycling;
@@ -148,49 +148,55 @@ fn run_inputs(head: Header, sheet: &[u8], rules: &[u8]) {
             recycling,
             lowering,
         };
-        press_case::run(plan, sheet, rules, head.room, head.marks);
+        press_case::run(rt, plan, sheet, rules, head.room, head.marks);
         return;
     }
-    replay_case::run(edition, sheet, rules, head.room);
+    replay_case::run(rt, edition, sheet, rules, head.room);
     if head.kind == 2 {
-        replay_case::show(edition, sheet, rules, head.room);
+        replay_case::show(rt, edition, sheet, rules, head.room);
     }
 }
 
 // The sheet and the rule table are read into the first bytes of what is lent, which is zero.
-fn run_in(number: u64, head: Header, sheet: &mut [u8], rules: &mut [u8]) -> bool {
-    if !stdio::is_read(sheet, head.sheet_follows) {
+fn run_in(
+    rt: &(impl Input + Print),
+    number: u64,
+    head: Header,
+    sheet: &mut [u8],
+    rules: &mut [u8],
+) -> bool {
+    if !stdio::is_read(rt, sheet, head.sheet_follows) {
         return false;
     }
-    if !stdio::is_read(rules, head.rules_follows) {
+    if !stdio::is_read(rt, rules, head.rules_follows) {
         return false;
     }
-    print_header(number, head);
+    print_header(rt, number, head);
     let s = stdio::least(head.sheet, sheet.len());
     let r = stdio::least(head.rules, rules.len());
-    run_inputs(head, &sheet[..s], &rules[..r]);
+    run_inputs(rt, head, &sheet[..s], &rules[..r]);
     true
 }
 
-fn run_case(number: u64, head: Header) -> bool {
+fn run_case(rt: &(impl Input + Print), number: u64, head: Header) -> bool {
     let mut sheet = [0u8; SHEET];
     let mut rules = [0u8; RULES];
-    run_in(number, head, &mut sheet, &mut rules)
+    run_in(rt, number, head, &mut sheet, &mut rules)
 }
 
 // Whether there was a case.
-fn run_next(number: u64) -> bool {
+fn run_next(rt: &(impl Input + Print), number: u64) -> bool {
     let mut bytes = [0u8; HEADER];
-    if !stdio::is_read(&mut bytes, HEADER) {
+    if !stdio::is_read(rt, &mut bytes, HEADER) {
         return false;
     }
-    run_case(number, header_of(&bytes))
+    run_case(rt, number, header_of(&bytes))
 }
 
 // Every case of standard input. A proved loop has to end, and nothing says that the input does: it counts to a number that no run reaches.
-pub fn run() {
+pub fn run(rt: &(impl Input + Print)) {
     let mut number = 0;
-    while number < u64::MAX && run_next(number) {
+    while number < u64::MAX && run_next(rt, number) {
         number += 1;
     }
 }

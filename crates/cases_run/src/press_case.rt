@@ -28,58 +28,73 @@ fn is_old(bytes: &[u8]) -> bool {
 }
 
 // Ends the line before it.
-fn print_beyond(out: &[u8], marks: &[u8]) {
+fn print_beyond(rt: &impl Print, out: &[u8], marks: &[u8]) {
     if is_old(out) && is_old(marks) {
-        text::print(b"\nuntouched\n");
+        text::print(rt, b"\nuntouched\n");
     } else {
-        text::print(b"\ntouched\n");
+        text::print(rt, b"\ntouched\n");
     }
 }
 
-fn print_order(order: Order) {
+fn print_order(rt: &impl Print, order: Order) {
     match order {
-        Order::BottomUp => text::print(b" order bottom-up"),
-        Order::TopDown => text::print(b" order top-down"),
+        Order::BottomUp => text::print(rt, b" order bottom-up"),
+        Order::TopDown => text::print(rt, b" order top-down"),
     }
 }
 
-fn print_pressed(edition: Edition, p: Pressed) {
-    text::print_ok(edition, p.conclusion);
-    text::print_count(b" records ", p.records);
-    text::print_count(b" nodes ", p.nodes);
-    text::print_count(b" steps ", p.steps);
-    text::print_count(b" peak ", p.peak);
-    text::print_count(b" marked ", p.marked);
+fn print_pressed(rt: &impl Print, edition: Edition, p: Pressed) {
+    text::print_ok(rt, edition, p.conclusion);
+    text::print_count(rt, b" records ", p.records);
+    text::print_count(rt, b" nodes ", p.nodes);
+    text::print_count(rt, b" steps ", p.steps);
+    text::print_count(rt, b" peak ", p.peak);
+    text::print_count(rt, b" marked ", p.marked);
     let order = p.order;
-    print_order(order);
+    print_order(rt, order);
 }
 
-fn print_memory(edition: Edition, records: u16, lines: usize, out: &[u8], marks: &[u8]) {
+fn print_memory(
+    rt: &impl Print,
+    edition: Edition,
+    records: u16,
+    lines: usize,
+    out: &[u8],
+    marks: &[u8],
+) {
     let bytes = edition.record_bytes() * base::wide(records);
     let n = stdio::least(bytes, out.len());
     let m = stdio::least(lines, marks.len());
-    text::print(b"\nout ");
-    text::print_bytes(&out[..n]);
-    text::print(b"\nmarks ");
-    text::print_bytes(&marks[..m]);
-    print_beyond(&out[n..], &marks[m..]);
+    text::print(rt, b"\nout ");
+    text::print_bytes(rt, &out[..n]);
+    text::print(rt, b"\nmarks ");
+    text::print_bytes(rt, &marks[..m]);
+    print_beyond(rt, &out[n..], &marks[m..]);
 }
 
-fn print_outcome(edition: Edition, answer: PressAnswer, lines: usize, out: &[u8], marks: &[u8]) {
+fn print_outcome(
+    rt: &impl Print,
+    edition: Edition,
+    answer: PressAnswer,
+    lines: usize,
+    out: &[u8],
+    marks: &[u8],
+) {
     match answer {
         PressAnswer::Accepted(p) => {
-            print_pressed(edition, p);
-            print_memory(edition, p.records, lines, out, marks);
+            print_pressed(rt, edition, p);
+            print_memory(rt, edition, p.records, lines, out, marks);
         }
         PressAnswer::Refused(why, k) => {
-            text::print_refused(b"= refused ", why, k);
-            print_beyond(out, marks);
+            text::print_refused(rt, b"= refused ", why, k);
+            print_beyond(rt, out, marks);
         }
     }
 }
 
 // Of what is lent, the first bytes are the room and the marks.
 fn run_in(
+    rt: &impl Print,
     plan: Plan,
     sheet: &[u8],
     rules: &[u8],
@@ -93,11 +108,18 @@ fn run_in(
     let answer = press::press(plan, sheet, rules, &mut out[..n], &mut core[..m]);
     let edition = plan.edition;
     let lines = edition.lines_in(rules.len());
-    print_outcome(edition, answer, lines, out, core);
+    print_outcome(rt, edition, answer, lines, out, core);
 }
 
-pub(crate) fn run(plan: Plan, sheet: &[u8], rules: &[u8], room: usize, marks: usize) {
+pub(crate) fn run(
+    rt: &impl Print,
+    plan: Plan,
+    sheet: &[u8],
+    rules: &[u8],
+    room: usize,
+    marks: usize,
+) {
     let mut out = [OLD; ROOM];
     let mut core = [OLD; MARKS];
-    run_in(plan, sheet, rules, room, marks, &mut out, &mut core);
+    run_in(rt, plan, sheet, rules, room, marks, &mut out, &mut core);
 }

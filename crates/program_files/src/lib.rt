@@ -1,8 +1,9 @@
 // Files: one read to its end, and one put in the place of another.
 #![tactic(auto)]
 
-ghost use Rattle.std.specs.Prelude.{◌≤◌, length};
-ghost use Rattle.program_files.specs.Files.{Brings};
+ghost use Rattle.std.specs.Prelude.{◌≡◌, ◌≤◌, length, IfOk, OnErr};
+ghost use Rattle.program_files.specs.declared.Brought.TheVariants.{Bytes, Failed};
+ghost use Rattle.program_files.specs.Files.{Adds, Brings, GivesSome, IsRead};
 
 use calls::How;
 use std::fs::{Files, OpenFile};
@@ -31,7 +32,9 @@ enum Brought {
 
 fn bytes_of(got: io::Result<usize>, buffer: &[u8]) -> Brought
     requires { length buffer.now ≤ 65536 }
-    ensures { Brings 65536 result }
+    ensures brings { Brings 65536 result }
+    ensures ok { IfOk got (λ n. n ≤ length buffer.now → result ≡ Bytes n) }
+    ensures err { OnErr got (result ≡ Failed) }
 {
     match got {
         Ok(n) => Brought::Bytes(n.min(buffer.len())),
@@ -41,7 +44,8 @@ fn bytes_of(got: io::Result<usize>, buffer: &[u8]) -> Brought
 
 // A read of what does not fit the start any more: it is only counted.
 fn read_past<F: Read>(file: &mut F) -> Brought
-    ensures { Brings 65536 result }
+    ensures brings { Brings 65536 result }
+    ensures gives { GivesSome (F.remaining file.old) (F.remaining file.new) result }
 {
     let mut rest = [0u8; PIECE];
     let got = calls::read(file, &mut rest);
@@ -51,7 +55,8 @@ fn read_past<F: Read>(file: &mut F) -> Brought
 // One read: into what is left of the start, and past it.
 fn read_some<F: Read>(file: &mut F, start: &mut [u8], at: usize) -> Brought
     requires { length start.old ≤ 65536 }
-    ensures { Brings 65536 result }
+    ensures brings { Brings 65536 result }
+    ensures adds { Adds (F.remaining file.old) (F.remaining file.new) at start.old start.new result }
 {
     if start.len() <= at {
         return read_past(file);
@@ -63,6 +68,7 @@ fn read_some<F: Read>(file: &mut F, start: &mut [u8], at: usize) -> Brought
 
 fn read_to_end<F: Read>(file: &mut F, start: &mut [u8]) -> Length
     requires { length start.old ≤ 65536 }
+    ensures { IsRead (F.remaining file.old) start.new result }
 {
     let mut length = 0;
     while length < LONGEST {

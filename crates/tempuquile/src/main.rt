@@ -6,6 +6,7 @@ use press::PressAnswer;
 use program_files::Length;
 use sheet::limits::TABLE_LINES;
 use sheet::narrow::{LINE_BYTES, PRESS_RECORDS, PRESSED_RECORDS, RECORD_BYTES};
+use std::fs::Files;
 use stdio::text;
 
 mod say;
@@ -18,29 +19,35 @@ const SHEET: usize = RECORD_BYTES * PRESS_RECORDS;
 const PRESSED: usize = RECORD_BYTES * PRESSED_RECORDS;
 
 // Both files are read before anything is judged, "`rules.bin` tried first".
-fn main() {
+fn main(rt: HostRuntime) {
     let mut rules = [0u8; RULES];
     let mut sheet = [0u8; SHEET];
-    let read_rules = program_files::read_file(b"rules.bin", &mut rules);
+    let read_rules = program_files::read_file(&rt, b"rules.bin", &mut rules);
     let Length::Whole(rules_length) = read_rules else {
-        text::print(b"unreadable rules.bin\n");
+        text::print(&rt, b"unreadable rules.bin\n");
         return;
     };
-    let read_sheet = program_files::read_file(b"sheet.bin", &mut sheet);
+    let read_sheet = program_files::read_file(&rt, b"sheet.bin", &mut sheet);
     let Length::Whole(sheet_length) = read_sheet else {
-        text::print(b"unreadable sheet.bin\n");
+        text::print(&rt, b"unreadable sheet.bin\n");
         return;
     };
-    answer(&sheet, sheet_length, &rules, rules_length);
+    answer(&rt, &sheet, sheet_length, &rules, rules_length);
 }
 
-fn is_written(bytes: &[u8]) -> bool {
+fn is_written<R: Files>(rt: &R, bytes: &[u8]) -> bool {
     let mut part = *b"pressed.bin.part0";
-    program_files::replace(b"pressed.bin", &mut part, bytes)
+    program_files::replace(rt, b"pressed.bin", &mut part, bytes)
 }
 
 // Presses what was read, and writes what is accepted.
-fn answer(sheet: &[u8; SHEET], sheet_length: usize, rules: &[u8; RULES], rules_length: usize) {
+fn answer<R: Files + Print>(
+    rt: &R,
+    sheet: &[u8; SHEET],
+    sheet_length: usize,
+    rules: &[u8; RULES],
+    rules_length: usize,
+) {
     let mut out = [0u8; PRESSED];
     let mut marks = [0u8; TABLE_LINES];
     let answer = program_whole::press_whole(
@@ -54,12 +61,12 @@ fn answer(sheet: &[u8; SHEET], sheet_length: usize, rules: &[u8; RULES], rules_l
     match answer {
         PressAnswer::Accepted(pressed) => {
             let end = program_whole::record_bytes(pressed);
-            if is_written(&out[..end]) {
-                say::accepted(pressed);
+            if is_written(rt, &out[..end]) {
+                say::accepted(rt, pressed);
             } else {
-                text::print(b"unwritable pressed.bin\n");
+                text::print(rt, b"unwritable pressed.bin\n");
             }
         }
-        PressAnswer::Refused(why, k) => say::refused(why, k),
+        PressAnswer::Refused(why, k) => say::refused(rt, why, k),
     }
 }
