@@ -1,9 +1,9 @@
--- The walk that notes last uses, by what the code finds at a node; and its end.
+-- The walk that notes last uses, by what the code finds at a node; its start and its end.
 use Prim.Native.Nat.{ℕ, ◌+◌, ◌≤◌}
 use mathlib.Core.Path.{◌≡◌, ap, ◌∙◌}
 use mathlib.Core.List.{List}
 use lib.Dec.{ltb}
-use lib.ListN.{length, get_or, set, replicate}
+use lib.ListN.{length, get_or, set, replicate, length-replicate}
 use borrow.Author.Tests.{eq-eqb, ne_eqb}
 use Rattle.base.specs.Folds.{fall}
 use Rattle.base.proofs.Folds.{fall-all}
@@ -31,7 +31,10 @@ module _ (s : List Link) (i : ℕ) (last : List ℕ) where
   unfolding last_turn note_uses
   turn-join p l r one two e q z = z ∙ ap (note_use i r) q ∙ rw e
 
--- the walk from an empty table is done
+-- the walk starts with an empty table, and is done
+pub cleared-long : (n : ℕ) (old cleared : List ℕ) → cleared ≡ replicate (length old) 0 → length old ≡ n → length cleared ≡ n
+cleared-long n old cleared e q = ap length e ∙ length-replicate (length old) 0 ∙ q
+
 pub last_done : (h : List ℕ) (i₀ i : ℕ) (old cleared last : List ℕ) → length old ≡ length h → i₀ ≡ length h
     → cleared ≡ replicate (length old) 0 → i ≤ 0
     → fall (last_turn (links_in h)) i last ≡ fall (last_turn (links_in h)) i₀ cleared → last ≡ last_uses (links_in h)

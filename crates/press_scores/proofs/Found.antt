@@ -39,6 +39,9 @@ module _ (rows : List ℕ) (g w bits : ℕ) (inside : w < row_words) (e : bits �
       here = λ h. in-word (w * word + b) b (omega (arith, f.low)) (omega (arith, f.low)) ∙ f.here;
     }
 
+pub row-empty : (rows : List ℕ) (g w n : ℕ) → n ≡ capacity → row_words ≤ w → ((m : ℕ) → m < w * word → in_row rows g m ≡ false) → FirstIn rows g n
+row-empty rows g w n e h f = record { none = λ m l. f m (omega arith); here = λ l. absurd (omega arith) }
+
 -- ---- the highest
 
 module _ (rows : List ℕ) where

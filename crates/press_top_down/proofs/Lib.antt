@@ -3,3 +3,4 @@ pub mod Taking
 pub mod Turning
 pub mod Changing
 pub mod Renewing
+pub mod Halves

@@ -1,6 +1,6 @@
 -- Scores that are worked out anew: of one node, of a chain of users, of all that a turn touches, of all nodes.
 use Prim.Native.Nat.{ℕ, suc, ◌+◌, ◌-◌, ◌≤◌, ◌<◌}
-use mathlib.Core.Path.{◌≡◌, sym, ◌∙◌}
+use mathlib.Core.Path.{◌≡◌, sym, ap, ◌∙◌}
 use mathlib.Core.Logic.{◌⊎◌, inl, inr}
 use mathlib.Core.List.{List}
 use native.Mathlib.Omega.{arith}
@@ -13,8 +13,13 @@ use Rattle.press_nodes.specs.Tables.{links_in, changed}
 use Rattle.press_nodes.proofs.Tables.{links-length}
 use Rattle.press_users.specs.declared.Side.{Side}
 use Rattle.press_users.specs.Chains.{parent_on, Chaining}
-use Rattle.press_scores.specs.Rows.{scores_in}
-use Rattle.press_top_down.specs.Renewed.{Scored, Renewed, Names, Touched, itself, user, sharer}
+use Rattle.press_scores.specs.Rows.{score_words, scores_in}
+use Rattle.press_top_down.specs.Renewed.{Tables, Scored, Renewed, Names, Touched, itself, user, sharer}
+
+-- the tables with other scores
+pub tables-next : {links left ahead numbers rows : List ℕ} (next : List ℕ) → Tables links left ahead numbers rows → length next ≡ score_words
+    → Tables links left ahead numbers next
+tables-next next t e = record { linked = t.linked; lefts = t.lefts; aheads = t.aheads; numbered = t.numbered; scored = e }
 
 module _ (f : ℕ → ℕ) where
   pub one-renewed : {n v : ℕ} {rows next : List ℕ} → v ≡ f n → ((m : ℕ) → scores_in next m ≡ changed n v (scores_in rows) m)
@@ -27,6 +32,12 @@ module _ (f : ℕ → ℕ) where
       | no q ↦ put m ∙ rw (ne_eqb m n q) right
     ];
   }
+
+  pub none-renewed : {Q : ℕ → Type 0} {rows : List ℕ} → ((m : ℕ) → Q m → ⊥) → Renewed f Q rows rows
+  none-renewed none = record { now-right = λ m q. absurd (none m q); still-right = λ m right. right }
+
+  pub less-renewed : {P Q : ℕ → Type 0} {rows next : List ℕ} → ((m : ℕ) → P m → Q m) → Renewed f Q rows next → Renewed f P rows next
+  less-renewed part r = record { now-right = λ m p. r.now-right m (part m p); still-right = r.still-right }
 
   pub both-renewed : {P Q R : ℕ → Type 0} {rows next last : List ℕ} → ((m : ℕ) → R m → P m ⊎ Q m)
       → Renewed f P rows next → Renewed f Q next last → Renewed f R rows last
@@ -89,12 +100,22 @@ module _ (f p : ℕ → ℕ) (k q : ℕ) {heads nexts : List ℕ} (c : Chaining 
       kept = λ m right. renewed.still-right m (w.kept m right);
     })
 
+pub walk_end : {f p : ℕ → ℕ} {k q : ℕ} {start rows : List ℕ} {e : ℕ} (n : ℕ) → e ≡ 0 → q ≡ n → Walk f p k q start rows e → Renewed f (λ m. p m ≡ suc n) start rows
+walk_end {f} {p} {k} {q} {start} {rows} {e} n z same w = record { now-right = λ m mine. by m (w.newer m (mine ∙ ap suc (sym same))); still-right = w.kept }
+  where
+    by : (m : ℕ) → (m < e) ⊎ Scored f rows m → Scored f rows m
+    by m (inl l) = absurd (omega arith)
+    by m (inr right) = right
+
 -- past the nodes there are no steps
 pub past-no-parent : (side : Side) (links : List ℕ) (m : ℕ) → length links ≤ m → parent_on side (link_at (links_in links) m) ≡ 0
 unfolding parent_on link_at
 past-no-parent side links m h = rw (get_or-eq_default (links_in links) (leaf 0) {n = m} (omega (arith, links-length links)))
 
 -- ---- all that a turn touches
+
+pub many-left : (t : List ℕ) (i q : ℕ) → i ≡ q → 2 < get_or t i 0 → get_or t q 0 ≤ 2 → ⊥
+many-left t i q same many few = omega (arith, ap (λ (k : ℕ). get_or t k 0) same)
 
 named-parent : (q p l r : ℕ) → 1 ≤ uses_in q (join p l r) → (q ≡ l) ⊎ (q ≡ r)
 unfolding uses_in naming

@@ -14,6 +14,13 @@ use Rattle.press_top_down.specs.Scores.{marked, parents_marked, score_in}
 
 -- ---- what a node gains
 
+module _ (t : List ℕ) (n i own : ℕ) (same : i ≡ n) where
+  pub frees : get_or t i 0 ≡ own → ◌≡◌ {A = ℕ} 1 (cond (eqb (get_or t n 0) own) 1 0)
+  frees h = rw (← same, eq-eqb (get_or t i 0) own h)
+
+  pub frees-none : (get_or t i 0 ≡ own → ⊥) → ◌≡◌ {A = ℕ} 0 (cond (eqb (get_or t n 0) own) 1 0)
+  frees-none h = rw (← same, ne_eqb (get_or t i 0) own h)
+
 pub at_most_one : (u : Bool) → cond u 1 0 ≤ 1
 at_most_one u = cond_both (λ k. k ≤ 1) u 1 0 (omega arith) (omega arith)
 

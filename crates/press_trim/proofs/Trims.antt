@@ -1,9 +1,9 @@
--- One turn of the trim, by what the code finds at the node; and the walk's end.
+-- One turn of the trim, by what the code finds at the node; and the walk's start.
 use Prim.Native.Nat.{ℕ, ◌+◌, ◌≤◌}
-use mathlib.Core.Path.{◌≡◌, ◌∙◌}
+use mathlib.Core.Path.{◌≡◌, ap, ◌∙◌}
 use mathlib.Core.List.{List}
 use native.Mathlib.Numerals.{add-one}
-use lib.ListN.{length, get_or, set, replicate}
+use lib.ListN.{length, get_or, set, replicate, length-set, length-replicate}
 use borrow.Author.Tests.{eq-eqb, ne_eqb}
 use Rattle.base.specs.Folds.{fall}
 use Rattle.base.proofs.Folds.{fall-all}
@@ -26,7 +26,10 @@ module _ (s : List Link) (n i : ℕ) (same : i ≡ n) (kept : List ℕ) where
   unfolding trim_turn keep_parents
   trim-join p l r i₁ i₂ h e u v = let z : get_or kept n 0 ≡ 0 → ⊥ = rw (← same) h in rw (ne_eqb (get_or kept n 0) 0 z, e, u, v)
 
--- the walk from one mark is done
+-- the walk starts with one mark, and is done
+pub trim-long : (start n : ℕ) (kept cleared : List ℕ) → cleared ≡ replicate (length kept) 0 → length kept ≡ n → length (set cleared start 1) ≡ n
+trim-long start n kept cleared e q = length-set cleared start 1 ∙ ap length e ∙ length-replicate (length kept) 0 ∙ q
+
 pub trim-done : (h : List ℕ) (from start i₀ i : ℕ) (kept cleared last : List ℕ) → Links h → length kept ≡ length h → start ≡ from → i₀ ≡ from + 1
     → cleared ≡ replicate (length kept) 0 → i ≤ 0
     → fall (trim_turn (links_in h)) i last ≡ fall (trim_turn (links_in h)) i₀ (set cleared start 1) → last ≡ trim (links_in h) from

@@ -5,8 +5,9 @@ use mathlib.Core.List.{List}
 use native.Mathlib.Omega.{arith}
 use native.Mathlib.Decide.{ℕ_discrete}
 use native.Mathlib.Numerals.{add-one}
-use lib.ListN.{length, get_or, set}
+use lib.ListN.{length, get_or, set, replicate}
 use lib.Seq.{get_or-set_same, get_or-set_other}
+use Rattle.base.proofs.Lists.{get_d-blank}
 use Rattle.press_spec.specs.Links.{Link, leaf, join}
 use Rattle.press_nodes.specs.Tables.{Sound}
 use Rattle.press_users.specs.declared.Side.{Side}
@@ -14,6 +15,17 @@ use Rattle.press_users.specs.declared.Side.TheVariants.{Left, Right}
 use Rattle.press_users.specs.Chains.{parent_on, Chaining}
 
 module _ (p : ℕ → ℕ) where
+  pub none-chained : (old heads nexts : List ℕ) → heads ≡ replicate (length old) 0 → Chaining p 0 heads nexts
+  none-chained old heads nexts e = record {
+    newest = λ m h o. absurd (omega arith);
+    head = λ q h. absurd (omega (arith, ap (λ (t : List ℕ). get_or t q 0) e, get_d-blank {A = ℕ} (length old) q 0));
+    older = λ m k l h. absurd (omega arith);
+    next = λ m h. absurd (omega arith);
+  }
+
+  pub all-chained : (k n : ℕ) {heads nexts : List ℕ} → k ≡ n → Chaining p k heads nexts → Chaining p n heads nexts
+  all-chained k n e c = rw e at c
+
   module _ (k : ℕ) {heads nexts : List ℕ} (c : Chaining p k heads nexts) where
     -- a node without a parent is in no chain
     pub not-chained : p k ≡ 0 → Chaining p (k + 1) heads nexts

@@ -1,4 +1,5 @@
 use mathlib.Core.Path.{refl}
+use mathlib.Core.Bool.{false}
 use Rattle.press_scores.proofs.Found.{word-empty, word_first}
 use borrow.Author.Rules.{rules}
 use Rattle.press_scores.proofs.first_in.Goals as goal
