@@ -58,6 +58,13 @@ module _ (fit : Fit) (p l r : ℕ) (S : Literals) (table next : List Reach) (cut
   unfolding cut_in hand_on
   on_both X Y mid q x y d e = rw q (e ∙ rw (y, d, x))
 
+-- bytes that are stored at smaller places
+pub byte_past : (b b' : List ℕ) (n m x : ℕ) → b' ≡ set b n x → n < m → get_or b' m 0 ≡ get_or b m 0
+byte_past b b' n m x e h = rw e (get_or-set_other b n m x 0 (omega arith))
+
+pub bytes_past : (b b₁ b₂ : List ℕ) (l r m x y : ℕ) → b₁ ≡ set b l x → b₂ ≡ set b₁ r y → l < m → r < m → get_or b₂ m 0 ≡ get_or b m 0
+bytes_past b b₁ b₂ l r m x y e d hl hr = byte_past b₁ b₂ r m y d hr ∙ byte_past b b₁ l m x e hl
+
 -- only parents are handed anything
 module _ (fit : Fit) (p l r : ℕ) (S : Literals) (m : ℕ) (hl : l < m) (hr : r < m) where
   hand-past : (n : ℕ) (X : Literals) (table : List Reach) → n < m → get_or (hand fit n X table) m unreached ≡ get_or table m unreached

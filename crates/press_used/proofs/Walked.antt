@@ -7,7 +7,7 @@ use native.Mathlib.Omega.{arith}
 use lib.Dec.{eqb}
 use lib.ListN.{length, get_or, drop, replicate}
 use lib.Seq.{drop-length}
-use borrow.Author.Tests.{ne_eqb}
+use borrow.Author.Tests.{eq-eqb, ne_eqb}
 use Rattle.base.proofs.Lists.{get_d-blank}
 use Rattle.clause.specs.Clauses.{plus, minus}
 use Rattle.press_spec.specs.Links.{Link, leaf, join, link_at}
@@ -25,6 +25,9 @@ module _ (s : List Link) (kept : List ℕ) (n : ℕ) where
   used_here m u = cond (eqb (get_or kept n 0) 0) u (used_in m (link_at s n) u)
 
   module _ (i : ℕ) (same : i ≡ n) where
+    pub use-past : (u : Used) (m : ℕ) → get_or kept i 0 ≡ 0 → u ≡ used_here m u
+    use-past u m h = let z : get_or kept n 0 ≡ 0 = rw (← same) h in rw (eq-eqb (get_or kept n 0) 0 z)
+
     here-kept : (u : Used) (m : ℕ) → (get_or kept i 0 ≡ 0 → ⊥) → used_here m u ≡ used_in m (link_at s n) u
     here-kept u m h = let z : get_or kept n 0 ≡ 0 → ⊥ = rw (← same) h in rw (ne_eqb (get_or kept n 0) 0 z)
 
