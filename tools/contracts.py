@@ -89,6 +89,11 @@ def functions(path):
             yield Function(owner + found[3], bool(found[2]), lines, at, end)
 
 
+def sources():
+    """The files of code and proofs, but not the copies that a check keeps in out/."""
+    return sorted(p for p in CRATES.glob("*/**/*") if p.suffix in (".rt", ".antt") and p.relative_to(CRATES).parts[1] != "out")
+
+
 def path_of(path):
     crate = path.relative_to(CRATES).parts[0]
     module = path.relative_to(CRATES / crate / "src").with_suffix("").parts
@@ -141,7 +146,7 @@ def faults(function, name, allowed):
 
 def unused():
     """Definitions that are named nowhere but where they are made."""
-    texts = {p: p.read_text() for p in CRATES.glob("*/**/*") if p.suffix in (".antt", ".rt") and "must-fail" not in p.parts}
+    texts = {p: p.read_text() for p in sources() if "must-fail" not in p.parts}
     for path in sorted(CRATES.glob("*/specs/**/*.antt")):
         for name in re.findall(r"^(?:abbrev |unfoldable )?pub (?:record |data )?([^\s:({]+)", texts[path], re.M):
             if name == "mod":
@@ -228,7 +233,7 @@ def main():
         PAGE.write_text(page)
     elif not PAGE.exists() or PAGE.read_text() != page:
         wrong.append("docs/CONTRACTS.md is out of date: run tools/contracts.py --write")
-    for path in sorted(p for p in CRATES.glob("*/**/*") if p.suffix in (".rt", ".antt")):
+    for path in sources():
         checked += 1
         count = path.read_text().count("\n")
         if count > FILE_LINES:

@@ -14,6 +14,7 @@ use Rattle.press_spec.specs.Press.{Call, call, Outcome, outcome, pressed, press}
 use Rattle.press_spec.proofs.Nodes.{proper-falling}
 use Rattle.press_spec.proofs.Drops.{length-with_drops-most}
 use Rattle.press_spec.proofs.Accepts.{Enough, press-fine, accepted-says}
+use Rattle.press_write.specs.declared.Pressed.{Pressed}
 use Rattle.press.specs.declared.PressAnswer.{PressAnswer}
 use Rattle.press.specs.declared.PressAnswer.TheVariants.{Accepted, Refused}
 use Rattle.press_write.specs.Reported.{reported}
@@ -48,3 +49,6 @@ accepted-fits (Accepted p) c out marks e =
     let most = length-with_drops-most s (proper-falling Narrow c.rules s y.kept.proper) in
     omega (arith, y.recorded, most, y.kept.fits, y.kept.some, y.enough.1.0)
 accepted-fits (Refused why k) c out marks e = tt
+
+pub fits-bytes : (room : ℕ) (r : PressAnswer) (p : Pressed) → r ≡ Accepted p → Fits room r → record_bytes Narrow * p.records ≤ room
+fits-bytes room r p e f = rw e at f
