@@ -19,7 +19,12 @@ pub(super) fn define(why: &str, name: &str, type_: &str, body: &str) -> String {
 
 pub(super) fn rules_of(worked: &Worked) -> String {
     let body = format!(" {}", literals_of(&worked.rules));
-    define("", &format!("{}_rules", worked.name), "List Literals", &body)
+    define(
+        "",
+        &format!("{}_rules", worked.name),
+        "List Literals",
+        &body,
+    )
 }
 
 pub(super) fn records_of(why: &str, name: &str, records: &[Record]) -> String {
