@@ -149,7 +149,7 @@ def main():
             for j, one in enumerate(batch):
                 text += f"\ncase{j} : T ({one})\n{OPEN} pressed replayed state_numbers states traced\ncase{j} = tt\n"
             (specs / f"Batch{i}.antt").write_text(text)
-        run = subprocess.run(["rt", "check", "scratch"], cwd=scratch, capture_output=True, text=True)
+        run = subprocess.run(["rt", "check"], cwd=specs.parent, capture_output=True, text=True)
         if run.returncode != 0:
             sys.stdout.write(run.stdout[-4000:] + run.stderr[-4000:])
             sys.exit(1)
