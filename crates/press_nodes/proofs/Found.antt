@@ -25,17 +25,17 @@ unfolding link_in
 found-join x m p l r e q = let f : link_in (Join p l r) ≡ m = rw q at e in cc
 
 -- the join's pivot is a variable, and its parents are smaller than it
-pub found-sound : (h : List ℕ) (n : ℕ) (x : CodeLink) (p : ℕ) (l r : NodeNo) → Links h → n < length h
+pub found-sound : (h : List CodeLink) (n : ℕ) (x : CodeLink) (p : ℕ) (l r : NodeNo) → Links h → n < length h
     → link_in x ≡ link_at (links_in h) n → x ≡ Join p l r → Sound n (join p l.0 r.0)
 found-sound h n x p l r t i e q = rw (found-join x (link_at (links_in h) n) p l r e q) at (t.sound n i)
 
 -- the record of a node, from its link and its clause
-module _ (h t : List ℕ) (n : ℕ) (x : CodeLink) (d : Clause) (inside : n < length h) (told : link_in x ≡ link_at (links_in h) n)
+module _ (h : List CodeLink) (t : List Clause) (n : ℕ) (x : CodeLink) (d : Clause) (inside : n < length h) (told : link_in x ≡ link_at (links_in h) n)
     (same : literals_of d ≡ clauses_in t n) where
-  pub reads-leaf : (line : LineNo) → x ≡ Leaf line → record_of (Given line d) ≡ node (node_at (nodes_in h t) n)
+  pub reads_leaf : (line : LineNo) → x ≡ Leaf line → record_of (Given line d) ≡ node (node_at (nodes_in h t) n)
   unfolding record_of node_of
-  reads-leaf line q = rw (nodes-at h t n inside, found-leaf x (link_at (links_in h) n) line told q, ← same)
+  reads_leaf line q = rw (nodes-at h t n inside, found-leaf x (link_at (links_in h) n) line told q, ← same)
 
-  pub reads-join : (p : ℕ) (l r : NodeNo) → x ≡ Join p l r → record_of (Step p l r d) ≡ node (node_at (nodes_in h t) n)
+  pub reads_join : (p : ℕ) (l r : NodeNo) → x ≡ Join p l r → record_of (Step p l r d) ≡ node (node_at (nodes_in h t) n)
   unfolding record_of node_of
-  reads-join p l r q = rw (nodes-at h t n inside, found-join x (link_at (links_in h) n) p l r told q, ← same)
+  reads_join p l r q = rw (nodes-at h t n inside, found-join x (link_at (links_in h) n) p l r told q, ← same)

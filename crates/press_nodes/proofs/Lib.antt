@@ -1,4 +1,3 @@
-pub mod Fated
 pub mod Found
 pub mod Lent
 pub mod Tables

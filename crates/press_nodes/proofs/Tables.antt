@@ -1,54 +1,38 @@
 -- Laws of the press's tables: what the word of a link says, what stores make of links, clauses and nodes, and where the parents of sound links stand.
 use mathlib.Core.Path.{◌≡◌, refl, sym, ap, ap₂, ◌∙◌}
 use mathlib.Core.List.{List, [], ◌∷◌}
-use Prim.Native.Nat.{ℕ, zero, suc, ◌+◌, ◌*◌, ◌/◌, ◌%◌, ◌^◌, ◌<◌}
+use Prim.Native.Nat.{ℕ, zero, suc, ◌<◌}
 use native.Mathlib.Omega.{arith}
 use native.Mathlib.Decide.{ℕ_discrete, dec_lt}
+use Rattle.std.proofs.lemmas.List.{get_or-map, get_or_default}
 use lib.Dec.{eqb-zero-suc, eqb-suc-zero, eqb-suc-suc}
-use lib.ListN.{length, get_or, set, take, length-map, length-set, get_or-map, get_or-eq_default}
+use lib.ListN.{length, get_or, set, take, length-map, get_or-eq_default}
 use lib.Seq.{get_or-take, get_or-set_same, get_or-set_other}
 use borrow.Author.Tests.{eq-eqb, ne_eqb}
 use Rattle.base.proofs.Lists.{map-set, map-take}
-use Rattle.clause.specs.Clauses.{Literals, literals}
+use Rattle.clause.specs.Clauses.{Literals}
+use Rattle.clause.specs.Denote.{literals_of}
+use Rattle.clause.specs.declared.Clause.{Clause}
 use Rattle.sheet.specs.Records.{given, step, clause, node_at}
 use Rattle.press_spec.specs.Links.{Link, leaf, join, link, links, link_at}
-use Rattle.press_nodes.specs.Tables.{of_one, of_two, pivot_at, left_at, right_at, line_at, link_of, links_in, clause_words, sets_in, clauses_in, changed, beside, node_of, nodes_in, Sound, Links}
+use Rattle.press_nodes.specs.declared.link.Link.{Link as CodeLink}
+use Rattle.press_nodes.specs.Tables.{link_in, links_in, nothing, clauses_in, changed, beside, node_of, nodes_in, Sound, Links}
 use Rattle.press_spec.proofs.Nodes.{Falls, Falling}
 
 -- ---- links
 
-pub leaf-word : (line : ℕ) → link_of (1 + line * line_at) ≡ leaf line
-unfolding link_of
-leaf-word line =
-    let low : (1 + line * line_at) % of_one ≡ 1 = omega arith in
-    let high : (1 + line * line_at) / line_at ≡ line = omega arith in
-    simp (low, high)
-
-pub join-word : (p l r : ℕ) → p < of_one → l < of_two → r < of_two → link_of (2 + p * pivot_at + l * left_at + r * right_at) ≡ join p l r
-unfolding link_of
-join-word p l r hp hl hr =
-    let word : ℕ = 2 + p * pivot_at + l * left_at + r * right_at in
-    let kind : word % of_one ≡ 2 = omega arith in
-    let from-pivot : word / pivot_at ≡ p + of_one * (l + r * of_two) = omega arith in
-    let from-left : word / left_at ≡ l + r * of_two = omega arith in
-    let from-right : word / right_at ≡ r = omega arith in
-    let pivot : (p + of_one * (l + r * of_two)) % of_one ≡ p = omega arith in
-    let left : (l + r * of_two) % of_two ≡ l = omega arith in
-    let right : r % of_two ≡ r = omega arith in
-    simp (kind, from-pivot, from-left, from-right, pivot, left, right)
-
-module _ (h : List ℕ) where
+module _ (h : List CodeLink) where
   pub links-length : length (links_in h) ≡ length h
   unfolding links_in
-  links-length = length-map h link_of
+  links-length = length-map h link_in
 
-  pub links-set : (i n x : ℕ) → i ≡ n → links_in (set h i x) ≡ set (links_in h) n (link_of x)
+  pub links_set : (i n : ℕ) (x : CodeLink) → i ≡ n → links_in (set h i x) ≡ set (links_in h) n (link_in x)
   unfolding links_in
-  links-set i n x e = rw (← e) (map-set link_of h i x)
+  links_set i n x e = rw (← e) (map-set link_in h i x)
 
-  pub links-at : (i n : ℕ) → i ≡ n → link_of (get_or h i 0) ≡ link_at (links_in h) n
-  unfolding links_in link_at link_of
-  links-at i n e = rw e (sym (get_or-map link_of h n 0))
+  pub links_at : (i n : ℕ) (z : CodeLink) → i ≡ n → n < length h → link_in (get_or h i z) ≡ link_at (links_in h) n
+  unfolding links_in link_at
+  links_at i n z e inside = rw e (sym (get_or-map link_in h n z _ inside))
 
 -- ---- clauses
 
@@ -60,57 +44,21 @@ pub changed-elsewhere : {A : Type 0} (n m : ℕ) (x : A) (there : ℕ → A) →
 unfolding changed
 changed-elsewhere n m x there e = rw (ne_eqb m n e)
 
-pub sets-put : (t : List ℕ) (i x y : ℕ) → 2 * i + 1 < length t → sets_in (set (set t (2 * i) x) (2 * i + 1) y) ≡ changed i (y * 2 ^ 64 + x) (sets_in t)
-unfolding sets_in
-sets-put t i x y h = λ d m. each m d
-  where
-    words : (a b a' b' : ℕ) → a ≡ a' → b ≡ b' → a * 2 ^ 64 + b ≡ a' * 2 ^ 64 + b'
-    words a b a' b' p q = ap₂ (λ (u v : ℕ). u * 2 ^ 64 + v) p q
+-- a clause that is put, and what stands at a place
+module _ (t : List Clause) where
+  pub clauses_put : (i n : ℕ) (c : Clause) → i ≡ n → n < length t → clauses_in (set t i c) ≡ changed n (literals_of c) (clauses_in t)
+  unfolding clauses_in
+  clauses_put i n c e inside = λ d m. each m d
+    where
+      each : (m : ℕ) → clauses_in (set t i c) m ≡ changed n (literals_of c) (clauses_in t) m
+      each m = elim (ℕ_discrete m n) [
+        | yes q ↦ rw (e, q, get_or-set_same t n c nothing inside) (sym (changed-there n n (literals_of c) (clauses_in t) refl))
+        | no q ↦ rw (e, get_or-set_other t n m c nothing q) (sym (changed-elsewhere n m (literals_of c) (clauses_in t) q))
+      ]
 
-    each : (m : ℕ) → sets_in (set (set t (2 * i) x) (2 * i + 1) y) m ≡ changed i (y * 2 ^ 64 + x) (sets_in t) m
-    each m = elim (ℕ_discrete m i) [
-      | yes q ↦
-          rw q
-          (words _ _ _ _
-          (get_or-set_same (set t (2 * i) x) (2 * i + 1) y 0 (rw (length-set t (2 * i) x) h))
-          (get_or-set_other (set t (2 * i) x) (2 * i + 1) (2 * i) y 0 (omega arith) ∙ get_or-set_same t (2 * i) x 0 (omega arith))
-          ∙ sym (changed-there i i (y * 2 ^ 64 + x) (sets_in t) refl))
-      | no q ↦
-          words _ _ _ _
-          (get_or-set_other (set t (2 * i) x) (2 * i + 1) (2 * m + 1) y 0 (omega arith) ∙ get_or-set_other t (2 * i) (2 * m + 1) x 0 (omega arith))
-          (get_or-set_other (set t (2 * i) x) (2 * i + 1) (2 * m) y 0 (omega arith) ∙ get_or-set_other t (2 * i) (2 * m) x 0 (omega arith))
-          ∙ sym (changed-elsewhere i m (y * 2 ^ 64 + x) (sets_in t) q)
-    ]
-
--- a clause that is put as two sets, one after the other
-pub clauses-put : (t u v : List ℕ) (n p q : ℕ) → sets_in u ≡ changed (2 * n) p (sets_in t) → sets_in v ≡ changed (2 * n + 1) q (sets_in u)
-    → clauses_in v ≡ changed n (literals p q) (clauses_in t)
-unfolding clauses_in
-clauses-put t u v n p q d e = λ i m. each m i
-  where
-    at-u : (k : ℕ) → sets_in u k ≡ changed (2 * n) p (sets_in t) k
-    at-u k = ap (λ (f : ℕ → ℕ). f k) d
-
-    at-v : (k : ℕ) → sets_in v k ≡ changed (2 * n + 1) q (sets_in u) k
-    at-v k = ap (λ (f : ℕ → ℕ). f k) e
-
-    each : (m : ℕ) → clauses_in v m ≡ changed n (literals p q) (clauses_in t) m
-    each m = elim (ℕ_discrete m n) [
-      | yes k ↦
-          rw k
-          (ap₂ literals
-          (at-v (2 * n) ∙ changed-elsewhere (2 * n + 1) (2 * n) q (sets_in u) (omega arith) ∙ at-u (2 * n) ∙ changed-there (2 * n) (2 * n) p (sets_in t) refl)
-          (at-v (2 * n + 1) ∙ changed-there (2 * n + 1) (2 * n + 1) q (sets_in u) refl)
-          ∙ sym (changed-there n n (literals p q) (clauses_in t) refl))
-      | no k ↦
-          ap₂ literals
-          (at-v (2 * m) ∙ changed-elsewhere (2 * n + 1) (2 * m) q (sets_in u) (omega arith) ∙ at-u (2 * m) ∙ changed-elsewhere (2 * n) (2 * m) p (sets_in t) (omega arith))
-          (at-v (2 * m + 1)
-          ∙ changed-elsewhere (2 * n + 1) (2 * m + 1) q (sets_in u) (omega arith)
-          ∙ at-u (2 * m + 1)
-          ∙ changed-elsewhere (2 * n) (2 * m + 1) p (sets_in t) (omega arith))
-          ∙ sym (changed-elsewhere n m (literals p q) (clauses_in t) k)
-    ]
+  pub clauses_found : (i n : ℕ) (z : Clause) → i ≡ n → n < length t → literals_of (get_or t i z) ≡ clauses_in t n
+  unfolding clauses_in
+  clauses_found i n z e inside = rw e (ap literals_of (get_or_default t n z nothing inside))
 
 -- ---- entries beside clauses
 
@@ -166,7 +114,7 @@ unfolding beside
 links-beside [] g = refl
 links-beside (x ∷ t) g = ap₂ (λ (y : Link) (u : List Link). y ∷ u) (link-node x (g 0)) (links-beside t (λ n. g (suc n)))
 
-module _ (h c : List ℕ) where
+module _ (h : List CodeLink) (c : List Clause) where
   pub links-nodes : links (nodes_in h c) ≡ links_in h
   unfolding nodes_in
   links-nodes = links-beside (links_in h) (clauses_in c)
@@ -193,10 +141,10 @@ module _ (h c : List ℕ) where
   pub link-in : (n : ℕ) → n < length h → link_at (links_in h) n ≡ link (node_at (nodes_in h c) n)
   link-in n i = rw (nodes-at n i) (sym (link-node (link_at (links_in h) n) (clauses_in c n)))
 
-  pub nodes-put : (n : ℕ) (x : Link) (d : Literals) (h' c' : List ℕ) → links_in h' ≡ set (links_in h) n x → clauses_in c' ≡ changed n d (clauses_in c)
+  pub nodes_put : (n : ℕ) (x : Link) (d : Literals) (h' : List CodeLink) (c' : List Clause) → links_in h' ≡ set (links_in h) n x → clauses_in c' ≡ changed n d (clauses_in c)
       → nodes_in h' c' ≡ set (nodes_in h c) n (node_of x d)
   unfolding nodes_in
-  nodes-put n x d h' c' e q = rw e (beside-set node_of (links_in h) (clauses_in c) (clauses_in c') n x d q)
+  nodes_put n x d h' c' e q = rw e (beside-set node_of (links_in h) (clauses_in c) (clauses_in c') n x d q)
 
 -- ---- sound links: their parents stand earlier
 
@@ -216,7 +164,7 @@ all-links P t z f n = elim (dec_lt n (length t)) [ yes h ↦ f n h | no h ↦ rw
 pub sound-falling : (t : List Link) → AllSound t → Falling t
 sound-falling t f = all-links (λ n m. Falls n m) t (λ n. tt) (λ n h. sound-falls n (link_at t n) (f n h))
 
-module _ {h : List ℕ} (t : Links h) where
+module _ {h : List CodeLink} (t : Links h) where
   pub links-sound : AllSound (links_in h)
   links-sound n i = t.sound n (rw (links-length h) at i)
 
@@ -225,17 +173,11 @@ module _ {h : List ℕ} (t : Links h) where
 
 -- ---- the first k nodes
 
-module _ (k : ℕ) (h c : List ℕ) where
-  same-clauses : (n : ℕ) → n < k → clauses_in (take (clause_words k) c) n ≡ clauses_in c n
-  unfolding clauses_in sets_in
-  same-clauses n i = rw (
-    get_or-take (clause_words k) c (2 * (2 * n) + 1) 0 (omega arith),
-    get_or-take (clause_words k) c (2 * (2 * n)) 0 (omega arith),
-    get_or-take (clause_words k) c (2 * (2 * n + 1) + 1) 0 (omega arith),
-    get_or-take (clause_words k) c (2 * (2 * n + 1)) 0 (omega arith),
-  )
+module _ (k : ℕ) (h : List CodeLink) (c : List Clause) where
+  same-clauses : (n : ℕ) → n < k → clauses_in (take k c) n ≡ clauses_in c n
+  unfolding clauses_in
+  same-clauses n i = rw (get_or-take k c n nothing i)
 
-  pub nodes-front : nodes_in (take k h) (take (clause_words k) c) ≡ take k (nodes_in h c)
+  pub nodes-front : nodes_in (take k h) (take k c) ≡ take k (nodes_in h c)
   unfolding nodes_in links_in
-  nodes-front =
-      rw (map-take link_of h k) (beside-take node_of k (links_in h) (clauses_in c) (clauses_in (take (clause_words k) c)) same-clauses)
+  nodes-front = rw (map-take link_in h k) (beside-take node_of k (links_in h) (clauses_in c) (clauses_in (take k c)) same-clauses)

@@ -1,4 +1,4 @@
-// The press's tables: links, a word a node, and clauses, two words a node; and fates, a byte a node.
+// The press's tables: a link, a clause and a fate for each node.
 #![tactic(auto)]
 
 pub mod clause_table;
