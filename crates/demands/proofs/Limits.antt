@@ -1,4 +1,5 @@
 -- 3 is given exactly beyond the limits on the number of records.
+use Rattle.std.proofs.Common.{Err}
 use Prim.Native.Nat.{ℕ, ◌*◌, ◌/◌, ◌%◌, ◌<◌, ◌≤◌}
 use mathlib.Core.Path.{◌≡◌, refl, sym, ◌∙◌}
 use mathlib.Core.Bool.{Bool, true, false, not, ◌&&◌, and-eq-true_iff}
@@ -11,7 +12,6 @@ use lib.ListN.{length, length-replicate}
 use borrow.Author.Tests.{eq-eqb, ne_eqb, lt-leb, ltb-true, leb-true}
 use Rattle.sheet.specs.declared.Reason.{Reason}
 use Rattle.sheet.specs.declared.Reason.TheVariants.{Long, NotHeld}
-use Rattle.sheet.specs.declared.Verdict.TheVariants.{Refused}
 use Rattle.sheet.specs.declared.edition.Edition.{Edition}
 use Rattle.sheet.specs.declared.edition.Edition.TheVariants.{Narrow, Wide}
 use Rattle.sheet.specs.Editions.{record_bytes, press_records, replay_records}
@@ -67,7 +67,7 @@ module _ (e : Edition) (n s : ℕ) (size : s ≡ record_bytes e * n) where
       let c : z.sheet / record_bytes z.edition ≡ n = rw (is-e, is-s) count in
       omega arith
 
-  too_long : (most rules : ℕ) → most < n → check_lengths e most s rules ≡ Refused Long
+  too_long : (most rules : ℕ) → most < n → check_lengths e most s rules ≡ Err Long
   unfolding check_lengths unless
   too_long most rules over =
       let filled : 0 < record_bytes e * n = mul-pos some_bytes (omega arith) in

@@ -1,4 +1,5 @@
 -- What the loop of judging comes to, one law for each way through its code.
+use Rattle.std.proofs.Common.{Err, Ok}
 use mathlib.Core.Path.{◌≡◌, refl, sym, ap, ◌∙◌}
 use mathlib.Core.List.{List, [], ◌∷◌, ◌++◌}
 use Prim.Native.Nat.{ℕ, suc, ◌+◌, ◌-◌, ◌*◌, ◌<◌, ◌≤◌}
@@ -7,8 +8,7 @@ use native.Mathlib.Numerals.{add-one}
 use lib.ListN.{length, take, set}
 use lib.Seq.{length-take-le, take_all, take-suc-set}
 use Rattle.sheet.specs.declared.Reason.{Reason}
-use Rattle.sheet.specs.declared.Verdict.{Verdict}
-use Rattle.sheet.specs.declared.Verdict.TheVariants.{Fine, Refused}
+use Rattle.sheet.specs.Reasons.{Verdict}
 use Rattle.sheet.specs.declared.edition.Edition.{Edition}
 use Rattle.sheet.specs.Editions.{record_bytes}
 use Rattle.sheet.specs.Records.{Node}
@@ -19,12 +19,12 @@ use Rattle.press_record.specs.Turns.{turn_says, turn_stores}
 use Rattle.press_record.proofs.Turning.{Turned}
 use Rattle.press_spec.proofs.Judged.{judge-more, judge-stops}
 
-said-fine : (t : Turn) → Fine ≡ turn_says t → (n : Node) × (t ≡ goes n)
+said-fine : (t : Turn) → (Ok tt) ≡ turn_says t → (n : Node) × (t ≡ goes n)
 unfolding turn_says
 said-fine (goes n) e = (n, refl)
 said-fine (stops why) e = absurd (let z : ◌≡◌ {A = ℕ} 0 1 = cc in omega arith)
 
-said-refused : (t : Turn) (why : Reason) → Refused why ≡ turn_says t → t ≡ stops why
+said-refused : (t : Turn) (why : Reason) → Err why ≡ turn_says t → t ≡ stops why
 unfolding turn_says
 said-refused (goes n) why e = absurd (let z : ◌≡◌ {A = ℕ} 0 1 = cc in omega arith)
 said-refused (stops w) why e = cc
@@ -48,7 +48,7 @@ module _ (edition : Edition) (rules sheet : List ℕ) where
     same_turn : turn edition rules (record_at edition sheet (length (take k s))) (take k s) ≡ turn edition rules b (take k s)
     same_turn = ap (λ (l : List ℕ). turn edition rules l (take k s)) (ap (record_at edition sheet) whole ∙ sym here)
 
-    pub judge-goes : (v : Verdict) (after : List Node) → v ≡ Fine → Turned edition rules b s k v after → Left n (k + 1) after
+    pub judge-goes : (v : Verdict) (after : List Node) → v ≡ (Ok tt) → Turned edition rules b s k v after → Left n (k + 1) after
     unfolding turn_stores
     judge-goes v after fine t =
         let went = said-fine (turn edition rules b (take k s)) (sym fine ∙ t.0) in
@@ -59,7 +59,7 @@ module _ (edition : Edition) (rules sheet : List ℕ) where
         ∙ ap (λ (m : ℕ). judge_from edition rules sheet m (take k s)) (sym more)
         ∙ left
 
-    pub judge-halts : (v : Verdict) (why : Reason) (after : List Node) → v ≡ Refused why → Turned edition rules b s k v after → bad why k ≡ judge edition rules sheet
+    pub judge-halts : (v : Verdict) (why : Reason) (after : List Node) → v ≡ Err why → Turned edition rules b s k v after → bad why k ≡ judge edition rules sheet
     judge-halts v why after e t =
         ap (bad why) (sym whole)
         ∙ sym (judge-stops edition rules sheet (n - (k + 1)) (take k s) why (same_turn ∙ said-refused (turn edition rules b (take k s)) why (sym e ∙ t.0)))

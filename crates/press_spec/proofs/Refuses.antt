@@ -1,4 +1,5 @@
 -- The press refuses exactly when what it is lent or one of the records is refused, and answers the first reason that applies.
+use Rattle.std.proofs.Common.{Err, Ok}
 use Prim.Native.Nat.{ℕ, zero, suc, ◌+◌, ◌-◌, ◌*◌, ◌/◌, ◌<◌}
 use mathlib.Core.Path.{◌≡◌, refl, sym, ap, ◌∙◌}
 use mathlib.Core.Bool.{Bool, false, ◌&&◌}
@@ -10,8 +11,7 @@ use lib.ListN.{length, length-map}
 use borrow.Author.Tests.{leb-true, leb-false}
 use Rattle.sheet.specs.declared.Reason.{Reason}
 use Rattle.sheet.specs.declared.Reason.TheVariants.{Room}
-use Rattle.sheet.specs.declared.Verdict.{Verdict}
-use Rattle.sheet.specs.declared.Verdict.TheVariants.{Fine, Refused}
+use Rattle.sheet.specs.Reasons.{Verdict}
 use Rattle.sheet.specs.declared.edition.Edition.{Edition}
 use Rattle.press_spec.specs.declared.Plan.{Plan}
 use Rattle.sheet.specs.Editions.{record_bytes, line_bytes}
@@ -53,19 +53,19 @@ module _ (e : Edition) (z : Sizes) where
   )
 
   -- what is lent to a press is refused for the first reason that applies to the lengths
-  pub press-refused : (why : Reason) → check_press e z ≡ Refused why → LentRefusedFor (lent_to e z) why
+  pub press-refused : (why : Reason) → check_press e z ≡ Err why → LentRefusedFor (lent_to e z) why
   unfolding check_press check_room
   press-refused = lent-refused (lent_to e z) roomy room-tells
 
-  pub refused-press : (why : Reason) → LentRefusedFor (lent_to e z) why → check_press e z ≡ Refused why
+  pub refused-press : (why : Reason) → LentRefusedFor (lent_to e z) why → check_press e z ≡ Err why
   unfolding check_press check_room
   refused-press = refused-lent (lent_to e z) roomy room-tells
 
-  pub press-none : check_press e z ≡ Fine → LentFine (lent_to e z)
+  pub press-none : check_press e z ≡ (Ok tt) → LentFine (lent_to e z)
   unfolding check_press check_room
   press-none = lent-fine (lent_to e z) roomy room-tells
 
-  pub none-press : LentFine (lent_to e z) → check_press e z ≡ Fine
+  pub none-press : LentFine (lent_to e z) → check_press e z ≡ (Ok tt)
   unfolding check_press check_room
   none-press = fine-lent (lent_to e z) roomy room-tells
 
@@ -145,7 +145,7 @@ module _ (plan : Plan) (c : Call) (n k : ℕ) where
   abbrev judging : Judged
   judging = judge e c.rules c.sheet
 
-  by-judging : checked ≡ Fine → (j : Judged) → judging ≡ j → (by_judging plan c j).answer ≡ refused n k → (rs : List Record) × LentFine lent × RecordRefused (place_after e c.rules rs) c.sheet n k
+  by-judging : checked ≡ (Ok tt) → (j : Judged) → judging ≡ j → (by_judging plan c j).answer ≡ refused n k → (rs : List Record) × LentFine lent × RecordRefused (place_after e c.rules rs) c.sheet n k
   unfolding by_judging emit refuse
   by-judging f (proper s) q a = let z : ◌≡◌ {A = ℕ} 0 1 = cc in absurd (omega arith)
   by-judging f (bad why i) q a =
@@ -165,8 +165,8 @@ module _ (plan : Plan) (c : Call) (n k : ℕ) where
 
   by_lengths_lem : (v : Verdict) → checked ≡ v → (by_lengths plan c v).answer ≡ refused n k → Refuses e c n k
   unfolding by_lengths refuse
-  by_lengths_lem Fine q a = inr (by-judging q judging refl a)
-  by_lengths_lem (Refused why) q a = inl (why, press-refused e (sizes_of c) why q, cc, cc)
+  by_lengths_lem (Ok tt) q a = inr (by-judging q judging refl a)
+  by_lengths_lem (Err why) q a = inl (why, press-refused e (sizes_of c) why q, cc, cc)
 
   refuses : (press plan c).answer ≡ refused n k → Refuses e c n k
   unfolding press

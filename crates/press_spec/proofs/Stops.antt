@@ -1,4 +1,5 @@
 -- A record stops the judging for exactly the first reason that applies to it.
+use Rattle.std.proofs.Common.{Err, Ok}
 use Prim.Native.Nat.{ℕ}
 use mathlib.Core.Path.{◌≡◌, refl, sym, ap, ◌∙◌}
 use mathlib.Core.Bool.{Bool, true, false, not, ◌&&◌, ◌||◌, cond, false≢true}
@@ -11,11 +12,9 @@ use borrow.Author.Tests.{eq-eqb, ne_eqb}
 use Rattle.clause.specs.Clauses.{Literals, plus, minus, holds, inside, resolvent}
 use Rattle.sheet.specs.declared.Reason.{Reason}
 use Rattle.sheet.specs.declared.Reason.TheVariants.{Kind, NotZero, Pivot, NotEarlier, Dropped, PivotMissing, LiteralMissing, LiteralTooMany, Full}
-use Rattle.sheet.specs.declared.Verdict.{Verdict}
-use Rattle.sheet.specs.declared.Verdict.TheVariants.{Fine, Refused}
 use Rattle.sheet.specs.declared.edition.Edition.{Edition}
 use Rattle.sheet.specs.Editions.{variables}
-use Rattle.sheet.specs.Reasons.{unless, and_then}
+use Rattle.sheet.specs.Reasons.{Verdict, unless, and_then}
 use Rattle.sheet.specs.Records.{Node, given, step, node, reads, unread, clause, node_at}
 use Rattle.sheet.specs.Fields.{Fields, fields_of, when_zero, read_given, read_step, read_drop, read_fields, reading}
 use Rattle.sheet.specs.Checks.{check_earlier, check_result, check_step, check_one_way, check_given}
@@ -26,12 +25,12 @@ use Rattle.press_spec.specs.Judge.{check_node, Turn, stops, by_verdict, by_readi
 use Rattle.press_spec.specs.Refused.{place_after}
 use Rattle.press_spec.proofs.Accepts.{nodes-alone, record-alone}
 
-verdict-stops : (n : Node) (v : Verdict) (why : Reason) → by_verdict n v ≡ stops why → v ≡ Refused why
+verdict-stops : (n : Node) (v : Verdict) (why : Reason) → by_verdict n v ≡ stops why → v ≡ Err why
 unfolding by_verdict
-verdict-stops n Fine why q = cc
-verdict-stops n (Refused r) why q = cc
+verdict-stops n (Ok tt) why q = cc
+verdict-stops n (Err r) why q = cc
 
-stops-verdict : (n : Node) (v : Verdict) (why : Reason) → v ≡ Refused why → by_verdict n v ≡ stops why
+stops-verdict : (n : Node) (v : Verdict) (why : Reason) → v ≡ Err why → by_verdict n v ≡ stops why
 unfolding by_verdict
 stops-verdict n v why q = rw q
 
@@ -39,11 +38,11 @@ stops-verdict n v why q = rw q
 module _ (a b x y z : Bool) where
   abbrev looks : Verdict
   looks =
-      and_then (unless a NotEarlier Fine)
-      (and_then (unless b NotEarlier Fine) (unless x PivotMissing (unless y LiteralMissing (unless z LiteralTooMany Fine))))
+      and_then (unless a NotEarlier (Ok tt))
+      (and_then (unless b NotEarlier (Ok tt)) (unless x PivotMissing (unless y LiteralMissing (unless z LiteralTooMany (Ok tt)))))
 
 looks-once : (a b x y z : Bool)
-    → looks a b x y z ≡ unless (a && b) NotEarlier (unless x PivotMissing (unless y LiteralMissing (unless (not y || z) LiteralTooMany Fine)))
+    → looks a b x y z ≡ unless (a && b) NotEarlier (unless x PivotMissing (unless y LiteralMissing (unless (not y || z) LiteralTooMany (Ok tt))))
 unfolding and_then unless
 looks-once true true x true z = refl
 looks-once true true x false z = refl
@@ -92,7 +91,7 @@ module _ (e : Edition) (rules : List ℕ) (s : List Node) (f : Fields) where
       ≡ unless (ltb f.left (length s) && ltb f.right (length s)) NotEarlier
       (unless (holds (plus f.pivot) left && holds (minus f.pivot) right) PivotMissing
       (unless lacks_none LiteralMissing
-      (unless (not lacks_none || inside f.clause (resolvent f.pivot left right)) LiteralTooMany Fine)))
+      (unless (not lacks_none || inside f.clause (resolvent f.pivot left right)) LiteralTooMany (Ok tt))))
   unfolding check_node check_earlier check_step check_result
   step-checks = looks-once _ _ _ _ _
 

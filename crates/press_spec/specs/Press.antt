@@ -1,15 +1,13 @@
 -- The whole press.
-use Rattle.std.specs.Prelude.{ℕ, List, length, replicate}
+use Rattle.std.specs.Prelude.{ℕ, List, length, replicate, Ok, Err}
 use Rattle.base.specs.Bytes.{put}
 use Rattle.clause.specs.Clauses.{Literals}
 use Rattle.sheet.specs.declared.Reason.{Reason}
-use Rattle.sheet.specs.declared.Verdict.{Verdict}
-use Rattle.sheet.specs.declared.Verdict.TheVariants.{Fine, Refused}
 use Rattle.sheet.specs.declared.edition.Edition.{Edition}
 use Rattle.press_spec.specs.declared.Order.{Order}
 use Rattle.press_spec.specs.declared.Plan.{Plan}
 use Rattle.sheet.specs.Editions.{variables}
-use Rattle.sheet.specs.Reasons.{number_of}
+use Rattle.sheet.specs.Reasons.{Verdict, number_of}
 use Rattle.sheet.specs.Records.{Node, clause, node_at}
 use Rattle.sheet.specs.Fields.{sheet_bytes, rule_lines}
 use Rattle.sheet.specs.Counts.{steps_of, peak_from}
@@ -131,8 +129,8 @@ by_judging plan c (proper s) = emit plan.edition c (pressed_order plan s) (press
 by_judging plan c (bad why k) = refuse c why k
 
 unfoldable pub by_lengths : Plan → Call → Verdict → Outcome
-by_lengths plan c Fine = by_judging plan c (judge plan.edition c.rules c.sheet)
-by_lengths plan c (Refused why) = refuse c why 0
+by_lengths plan c (Ok tt) = by_judging plan c (judge plan.edition c.rules c.sheet)
+by_lengths plan c (Err why) = refuse c why 0
 
 unfoldable pub press : Plan → Call → Outcome
 press plan c = by_lengths plan c (check_press plan.edition (sizes_of c))

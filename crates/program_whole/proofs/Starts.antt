@@ -1,12 +1,12 @@
 -- Two files that pass checks 1 to 5 stand whole in the buffers, so pressing their starts is pressing them; and what is accepted fits.
+use Rattle.std.proofs.Common.{Err, Ok}
 use Prim.Native.Nat.{ℕ, ◌*◌, ◌/◌, ◌≤◌}
 use mathlib.Core.Path.{◌≡◌, sym, ap}
 use mathlib.Core.List.{List}
 use native.Mathlib.Omega.{arith}
 use lib.ListN.{length, take}
 use Rattle.sheet.specs.declared.Reason.{Reason}
-use Rattle.sheet.specs.declared.Verdict.{Verdict}
-use Rattle.sheet.specs.declared.Verdict.TheVariants as W
+use Rattle.sheet.specs.Reasons.{Verdict}
 use Rattle.sheet.specs.declared.edition.Edition.TheVariants.{Narrow}
 use Rattle.sheet.specs.Editions.{record_bytes, line_bytes, press_records, table_lines}
 use Rattle.press_spec.specs.Judge.{Sizes, sizes, check_press}
@@ -22,7 +22,7 @@ use Rattle.press.specs.Said.{said}
 use Rattle.press.proofs.Ready.{press-refused}
 use Rattle.program_whole.specs.Whole.{program_plan, Starts, Fits}
 
-module _ (z : Sizes) (fine : check_press Narrow z ≡ W.Fine) where
+module _ (z : Sizes) (fine : check_press Narrow z ≡ (Ok tt)) where
   enough : Enough Narrow z (z.sheet / record_bytes Narrow)
   enough = press-fine Narrow z fine
 
@@ -33,7 +33,7 @@ module _ (z : Sizes) (fine : check_press Narrow z ≡ W.Fine) where
   rules-short = omega (arith, enough.0.3.0, enough.0.3.1)
 
 pub whole-refused : (v : Verdict) (why : Reason) (m n : ℕ) (sheet rules out marks s t : List ℕ)
-    → v ≡ check_press Narrow (sizes m n (length out) (length marks)) → v ≡ W.Refused why → Starts s m sheet → Starts t n rules
+    → v ≡ check_press Narrow (sizes m n (length out) (length marks)) → v ≡ Err why → Starts s m sheet → Starts t n rules
     → outcome (said (Refused why (record { 0 = 0 }))) out marks ≡ press program_plan (call s t out marks)
 whole-refused v why m n sheet rules out marks s t q e a b = press-refused program_plan (call s t out marks) v why (rw (a.0, b.0) q) e
 

@@ -1,11 +1,11 @@
 -- What the whole replay comes to, in the two ways that it goes.
+use Rattle.std.proofs.Common.{Err, Ok}
 use mathlib.Core.Path.{◌≡◌, refl, sym, ap, ◌∙◌}
 use mathlib.Core.Bool.{true, false}
 use mathlib.Core.List.{List}
 use Prim.Native.Nat.{ℕ, ◌/◌}
 use lib.ListN.{length, replicate, length-replicate}
-use Rattle.sheet.specs.declared.Verdict.{Verdict}
-use Rattle.sheet.specs.declared.Verdict.TheVariants.{Fine, Refused}
+use Rattle.sheet.specs.Reasons.{Verdict}
 use Rattle.sheet.specs.declared.edition.Edition.{Edition}
 use Rattle.sheet.specs.Editions.{record_bytes, replay_records}
 use Rattle.sheet.specs.Checks.{check_lengths}
@@ -18,10 +18,10 @@ use Rattle.replay_slots.specs.Said.{row_of}
 use Rattle.replay_answer.specs.Answers.{ended}
 use Rattle.replay_slots.proofs.Rows.{row-length}
 
-pub fine-is : (v : Verdict) → passes v ≡ true → v ≡ Fine
+pub fine-is : (v : Verdict) → passes v ≡ true → v ≡ (Ok tt)
 unfolding passes
-fine-is Fine e = refl
-fine-is (Refused why) e = cc
+fine-is (Ok tt) e = refl
+fine-is (Err why) e = cc
 
 -- a cleared row is as long as the row was
 pub cleared-length : (ys zs : List Slot) → row_of zs ≡ cleared (row_of ys) → length zs ≡ length ys
@@ -38,8 +38,8 @@ module _ (edition : Edition) (sheet rules : List ℕ) where
 
   pub comes-refused : (row : List RowSlot) (v : Verdict) → v ≡ verdict → passes v ≡ false → (a : Answer) (u : Tally) (p : Place) → a ≡ ended v 0 u p → outcome a row ≡ replay edition sheet rules row
   unfolding passes replay by_lengths ended
-  comes-refused row Fine e fails a u p so = cc
-  comes-refused row (Refused why) e fails a u p so = rw (← e, so)
+  comes-refused row (Ok tt) e fails a u p so = cc
+  comes-refused row (Err why) e fails a u p so = rw (← e, so)
 
   -- the row is cleared, run through, and cleared again
   pub comes-fine : (ys zs₁ zs₂ zs₃ : List Slot) (a : Answer) (s : State) → passes verdict ≡ true → row_of zs₁ ≡ cleared (row_of ys)

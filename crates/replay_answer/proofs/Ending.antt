@@ -1,8 +1,8 @@
 -- The last node, where there is one; and what a replay ends with in a state, or where a record is refused.
+use Rattle.std.proofs.Common.{Ok}
 use mathlib.Core.Path.{◌≡◌, refl, ap}
 use Prim.Native.Nat.{ℕ, zero, suc, ◌-◌}
 use native.Mathlib.Omega.{arith}
-use Rattle.sheet.specs.declared.Verdict.TheVariants.{Fine}
 use Rattle.replay_spec.specs.Slots.{holder, look, last_of}
 use Rattle.replay_spec.specs.Step.{State}
 use Rattle.replay_spec.specs.Replay.{ending}
@@ -13,6 +13,6 @@ unfolding last_of
 last-is zero h = absurd (h refl)
 last-is (suc n) h = let e : suc n - 1 ≡ n = omega arith in ap holder e
 
-pub ends-in : (k : ℕ) (s : State) → ended Fine k s.tally (look (last_of s.tally.next) s.slots) ≡ ending k s
+pub ends-in : (k : ℕ) (s : State) → ended (Ok tt) k s.tally (look (last_of s.tally.next) s.slots) ≡ ending k s
 unfolding ended ending
 ends-in k s = refl

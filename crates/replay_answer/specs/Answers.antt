@@ -1,9 +1,7 @@
 -- What the replay's answer says: the paper's number and values for each case; and how a replay ends.
-use Rattle.std.specs.Prelude.{ℕ}
+use Rattle.std.specs.Prelude.{ℕ, Ok, Err}
 use Rattle.clause.specs.Denote.{literals_of, ClauseFits}
-use Rattle.sheet.specs.declared.Verdict.{Verdict}
-use Rattle.sheet.specs.declared.Verdict.TheVariants as D
-use Rattle.sheet.specs.Reasons.{number_of}
+use Rattle.sheet.specs.Reasons.{Verdict, number_of}
 use Rattle.tally.specs.Tally.{Tally}
 use Rattle.replay_spec.specs.Slots.{Place}
 use Rattle.replay_spec.specs.Replay.{Result, Answer, refused, accepted, by_last}
@@ -25,5 +23,5 @@ AnswerFits (A.Refused why k) = Unit {0}
 
 -- refused at record k; or after k records, by what is found of the last node
 unfoldable pub ended : Verdict → ℕ → Tally → Place → Answer
-ended D.Fine k t last = by_last k t last
-ended (D.Refused why) k t last = refused (number_of why) k
+ended (Ok tt) k t last = by_last k t last
+ended (Err why) k t last = refused (number_of why) k

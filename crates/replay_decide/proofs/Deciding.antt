@@ -1,9 +1,9 @@
 -- What is decided on what was found in a row is what a record comes to in that row.
+use Rattle.std.proofs.Common.{Err, Ok}
 use mathlib.Core.Path.{◌≡◌, refl}
 use mathlib.Core.List.{List}
 use Prim.Native.Nat.{ℕ}
-use Rattle.sheet.specs.declared.Verdict.{Verdict}
-use Rattle.sheet.specs.declared.Verdict.TheVariants.{Fine, Refused}
+use Rattle.sheet.specs.Reasons.{Verdict}
 use Rattle.sheet.specs.declared.edition.Edition.{Edition}
 use Rattle.sheet.specs.Records.{given, step, Record, node, drop, Reading, reads, unread}
 use Rattle.replay_spec.specs.Slots.{Slot, put, held, clause_held, room, look, hold, release}
@@ -43,6 +43,6 @@ module _ (e : Edition) (rules : List ℕ) (s : State) where
       by-verdict : (v : Verdict)
           → comes_to (by_checks v s.tally r (look (left_sought (reads r)) s.slots) (look (room_sought (reads r)) s.slots)) s.slots
           ≡ by_turn s (by_verdict v (after s r))
-      by-verdict Fine = rw (stored-in r)
-      by-verdict (Refused why) = refl
+      by-verdict (Ok tt) = rw (stored-in r)
+      by-verdict (Err why) = refl
   decides (unread why) = refl

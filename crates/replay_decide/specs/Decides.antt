@@ -1,7 +1,6 @@
 -- What a record comes to, with what was found in the row.
-use Rattle.std.specs.Prelude.{ℕ, List}
-use Rattle.sheet.specs.declared.Verdict.{Verdict}
-use Rattle.sheet.specs.declared.Verdict.TheVariants.{Fine, Refused}
+use Rattle.std.specs.Prelude.{ℕ, List, Ok, Err}
+use Rattle.sheet.specs.Reasons.{Verdict}
 use Rattle.sheet.specs.declared.edition.Edition.{Edition}
 use Rattle.sheet.specs.Records.{Record, node, drop, clause, Reading, reads, unread}
 use Rattle.tally.specs.Tally.{Tally, counted}
@@ -19,9 +18,9 @@ abbrev pub keeps : Verdict → Tally → Decided
 keeps v t = record { verdict = v; tally = t; place = nowhere }
 
 unfoldable pub by_checks : Verdict → Tally → Record → Place → Place → Decided
-by_checks Fine t r left vacant = record { verdict = Fine; tally = counted t r; place = placed t.next r left vacant }
-by_checks (Refused why) t r left vacant = keeps (Refused why) t
+by_checks (Ok tt) t r left vacant = record { verdict = (Ok tt); tally = counted t r; place = placed t.next r left vacant }
+by_checks (Err why) t r left vacant = keeps (Err why) t
 
 unfoldable pub decided : Edition → List ℕ → Tally → Reading → Place → Place → Place → Decided
 decided e rules t (reads r) left right vacant = by_checks (check_found e rules t.next r left right vacant) t r left vacant
-decided e rules t (unread why) left right vacant = keeps (Refused why) t
+decided e rules t (unread why) left right vacant = keeps (Err why) t

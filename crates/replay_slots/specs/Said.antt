@@ -1,8 +1,7 @@
 -- What the code's values are, and what a step's answer says: the paper's number and values for each case.
 use Rattle.std.specs.Prelude.{List, [], ◌∷◌, map}
 use Rattle.clause.specs.Denote.{literals_of, ClauseFits}
-use Rattle.sheet.specs.declared.Verdict.{Verdict}
-use Rattle.sheet.specs.Reasons.{number_of}
+use Rattle.sheet.specs.Reasons.{Verdict, number_of}
 use Rattle.tally.specs.Tally.{Tally}
 use Rattle.tally.specs.Said.{tally_of}
 use Rattle.replay_slots.specs.declared.Slot.{Slot as CodeSlot}

@@ -1,5 +1,6 @@
 -- The slots and the tally mirror the run of records so far: a node is in the slots exactly when it is held, with its clause, and the
 -- tally counts what the definitions count. So the checks pass exactly the records that are proper after the run, with room for a node.
+use Rattle.std.proofs.Common.{Err, Ok}
 use mathlib.Core.Path.{◌≡◌, refl, sym, ap, ◌∙◌}
 use mathlib.Core.Bool.{true, false, true≢false}
 use mathlib.Core.Logic.{◌≢◌}
@@ -13,7 +14,6 @@ use lib.Seq.{take-suc}
 use borrow.Author.Tests.{lt-ltb}
 use Rattle.clause.specs.Clauses.{none}
 use Rattle.sheet.specs.declared.Reason.TheVariants.{Dropped, Full}
-use Rattle.sheet.specs.declared.Verdict.TheVariants.{Fine, Refused}
 use Rattle.sheet.specs.declared.edition.Edition.{Edition}
 use Rattle.sheet.specs.Editions.{replay_records}
 use Rattle.sheet.specs.Reasons.{unless, and_then}
@@ -158,19 +158,19 @@ module _ (e : Edition) (rules : List ℕ) (done : List Record) (s : State) (m : 
   after-mirrors (drop n) p q = drop-mirrors done s m n p
 
   -- the checks of a named node
-  earlier-fine : (n : ℕ) → Held done n → check_earlier s.tally.next n ≡ Fine
+  earlier-fine : (n : ℕ) → Held done n → check_earlier s.tally.next n ≡ (Ok tt)
   earlier-fine n h = fine-earlier s.tally.next n (omega (arith, h.0, numbered m))
 
-  held-fine : (n : ℕ) → Held done n → check_held s.slots n ≡ Fine
+  held-fine : (n : ℕ) → Held done n → check_held s.slots n ≡ (Ok tt)
   unfolding check_held
-  held-fine n h = fine-unless _ Dropped Fine (m.all n h) refl
+  held-fine n h = fine-unless _ Dropped (Ok tt) (m.all n h) refl
 
-  fine-held : (n : ℕ) → check_held s.slots n ≡ Fine → Held done n
+  fine-held : (n : ℕ) → check_held s.slots n ≡ (Ok tt) → Held done n
   unfolding check_held
-  fine-held n v = m.only n (unless-fine _ Dropped Fine v).0
+  fine-held n v = m.only n (unless-fine _ Dropped (Ok tt) v).0
 
   -- of a proper node only 15 is left to check
-  proper-checked : (x : Node) → ProperAfter e rules done (node x) → check_record e rules s (node x) ≡ and_then (check_room s.slots) Fine
+  proper-checked : (x : Node) → ProperAfter e rules done (node x) → check_record e rules s (node x) ≡ and_then (check_room s.slots) (Ok tt)
   unfolding check_record first_of and_then
   proper-checked (given line c) p = rw (fine-given e rules line c p.0 p.1 p.2)
   proper-checked (step p l r c) (left, right, plus, minus, result) =
@@ -184,21 +184,21 @@ module _ (e : Edition) (rules : List ℕ) (done : List Record) (s : State) (m : 
         fine-step p (clause_in done l) (clause_in done r) c plus minus result,
       )
 
-  pub proper-fine : (r : Record) → ProperAfter e rules done r → Roomy r s.slots → check_record e rules s r ≡ Fine
+  pub proper-fine : (r : Record) → ProperAfter e rules done r → Roomy r s.slots → check_record e rules s r ≡ (Ok tt)
   unfolding check_room unless check_record first_of and_then
   proper-fine (node x) p q = proper-checked x p ∙ rw q
   proper-fine (drop n) p q = rw (earlier-fine n p, held-fine n p)
 
-  pub proper-full : (x : Node) → ProperAfter e rules done (node x) → room s.slots ≡ false → check_record e rules s (node x) ≡ Refused Full
+  pub proper-full : (x : Node) → ProperAfter e rules done (node x) → room s.slots ≡ false → check_record e rules s (node x) ≡ Err Full
   unfolding check_room unless and_then
   proper-full x p q = proper-checked x p ∙ rw q
 
   -- what passes is proper, and has room
-  pub fine-proper : (r : Record) → check_record e rules s r ≡ Fine → ProperAfter e rules done r × Roomy r s.slots
+  pub fine-proper : (r : Record) → check_record e rules s r ≡ (Ok tt) → ProperAfter e rules done r × Roomy r s.slots
   unfolding check_record first_of check_room
   fine-proper (node (given line c)) v =
       let (line-fine, rest) = and_then-fine _ _ v in
-      (given-fine e rules line c line-fine, (unless-fine _ Full Fine (and_then-fine _ _ rest).0).0)
+      (given-fine e rules line c line-fine, (unless-fine _ Full (Ok tt) (and_then-fine _ _ rest).0).0)
   fine-proper (node (step p l r c)) v =
       let held_on = (and_then-fine _ _ (and_then-fine _ _ v).1).1 in
       let left = fine-held l (and_then-fine _ _ held_on).0 in
@@ -207,7 +207,7 @@ module _ (e : Edition) (rules : List ℕ) (done : List Record) (s : State) (m : 
       let (resolved, room-left) = and_then-fine _ _ (and_then-fine _ _ after-left).1 in
       let (plus, minus, result) =
       rw (m.clauses l left, m.clauses r right) at (step-fine p (clause_held l s.slots) (clause_held r s.slots) c resolved) in
-      ((left, right, plus, minus, result), (unless-fine _ Full Fine (and_then-fine _ _ room-left).0).0)
+      ((left, right, plus, minus, result), (unless-fine _ Full (Ok tt) (and_then-fine _ _ room-left).0).0)
   fine-proper (drop n) v = (fine-held n (and_then-fine _ _ (and_then-fine _ _ v).1).0, tt)
 
 -- ---- after k of the records that a sheet of n begins with

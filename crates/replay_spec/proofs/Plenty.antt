@@ -1,4 +1,5 @@
 -- With a slot for each record that a replay may have, the number of slots does not matter: more of them stay free, and no answer changes.
+use Rattle.std.proofs.Common.{Err, Ok}
 use mathlib.Core.Path.{◌≡◌, refl, sym, ap, ◌∙◌}
 use mathlib.Core.Bool.{true}
 use mathlib.Core.List.{List, ◌++◌}
@@ -10,8 +11,7 @@ use lib.Seq.{length-take-le}
 use borrow.Author.Tests.{lt-ltb}
 use Rattle.sheet.specs.declared.Reason.{Reason}
 use Rattle.sheet.specs.declared.Reason.TheVariants.{Dropped}
-use Rattle.sheet.specs.declared.Verdict.{Verdict}
-use Rattle.sheet.specs.declared.Verdict.TheVariants.{Fine, Refused}
+use Rattle.sheet.specs.Reasons.{Verdict}
 use Rattle.sheet.specs.declared.edition.Edition.{Edition}
 use Rattle.sheet.specs.Editions.{record_bytes, replay_records}
 use Rattle.sheet.specs.Records.{given, step, Record, node, drop, clause, Reading, reads, unread}
@@ -57,16 +57,16 @@ module _ (others : List Slot) where
     checked-wider (drop n) = rw (held-wider s.slots n)
 
     -- a drop that is fine is of a node that is held
-    drop-held : (n : ℕ) → check_record e rules s (drop n) ≡ Fine → held n s.slots ≡ true
+    drop-held : (n : ℕ) → check_record e rules s (drop n) ≡ (Ok tt) → held n s.slots ≡ true
     unfolding check_record first_of check_held
     drop-held n v = (unless-fine _ Dropped _ (and_then-fine _ _ (and_then-fine _ _ v).1).0).0
 
-    after-wider : (r : Record) → check_record e rules s r ≡ Fine → after (wider s) r ≡ wider (after s r)
+    after-wider : (r : Record) → check_record e rules s r ≡ (Ok tt) → after (wider s) r ≡ wider (after s r)
     unfolding after stored
     after-wider (node x) v = ap (state (counted s.tally (node x))) (hold-more s.tally.next (clause x) s.slots (cleared others) q)
     after-wider (drop n) v = ap (state (counted s.tally (drop n))) (release-more n s.slots (cleared others) (drop-held n v))
 
-    used-then : in_use s.slots ≡ s.tally.held → (r : Record) → check_record e rules s r ≡ Fine → in_use (after s r).slots ≡ (after s r).tally.held
+    used-then : in_use s.slots ≡ s.tally.held → (r : Record) → check_record e rules s r ≡ (Ok tt) → in_use (after s r).slots ≡ (after s r).tally.held
     unfolding after stored counted
     used-then u (node x) v = omega (arith, in_use-hold s.tally.next (clause x) s.slots q, u)
     used-then u (drop n) v = omega (arith, in_use-release n s.slots (drop-held n v), u)
@@ -82,8 +82,8 @@ module _ (others : List Slot) where
     stops-wider b why g = by-reading (reading e true b) g
       where
         by-verdict : (r : Record) (v : Verdict) → by_verdict v (after s r) ≡ stops why → by_verdict v (after (wider s) r) ≡ stops why
-        by-verdict r Fine h = cc
-        by-verdict r (Refused x) h = h
+        by-verdict r (Ok tt) h = cc
+        by-verdict r (Err x) h = h
 
         by-reading : (w : Reading) → by_reading e rules s w ≡ stops why → by_reading e rules (wider s) w ≡ stops why
         by-reading (reads r) h = rw (checked-wider r) (by-verdict r (check_record e rules s r) h)
@@ -135,11 +135,11 @@ module _ (e : Edition) (sheet rules : List ℕ) where
     where
       by-verdict : (v : Verdict) → check_lengths e (replay_records e) (length sheet) (length rules) ≡ v
           → (by_lengths e sheet rules (row ++ others) v).answer ≡ (by_lengths e sheet rules row v).answer
-      by-verdict Fine q =
+      by-verdict (Ok tt) q =
           let few = (lengths-fine e (replay_records e) (length sheet) (length rules) q).2 in
           ap (λ (slots : List Slot). run e rules sheet (length sheet / record_bytes e) 0 (state (start row).tally slots)) (cleared-append row others)
           ∙ run_wider others e rules sheet (length sheet / record_bytes e) 0 (start row) (omega (arith, length-cleared row)) (omega arith) (in_use-cleared row)
-      by-verdict (Refused why) q = refl
+      by-verdict (Err why) q = refl
 
   -- the slots lent are cleared first: only their number matters
   pub replay-by-number : (row others : List Slot) → length row ≡ length others → (replay e sheet rules row).answer ≡ (replay e sheet rules others).answer
@@ -147,8 +147,8 @@ module _ (e : Edition) (sheet rules : List ℕ) where
   replay-by-number row others same = by-verdict (check_lengths e (replay_records e) (length sheet) (length rules))
     where
       by-verdict : (v : Verdict) → (by_lengths e sheet rules row v).answer ≡ (by_lengths e sheet rules others v).answer
-      by-verdict Fine = ap (λ (k : ℕ). run e rules sheet (length sheet / record_bytes e) 0 (state (start row).tally (replicate k empty))) same
-      by-verdict (Refused why) = refl
+      by-verdict (Ok tt) = ap (λ (k : ℕ). run e rules sheet (length sheet / record_bytes e) 0 (state (start row).tally (replicate k empty))) same
+      by-verdict (Err why) = refl
 
   -- as many as a replay may have records are enough
   pub replay-enough : (row : List Slot) → replay_records e ≤ length row → (replay e sheet rules row).answer ≡ (replay e sheet rules (replicate (replay_records e) empty)).answer

@@ -1,4 +1,5 @@
 -- The replay refuses exactly when the lengths, one of the records or the end is refused, and answers the first reason that applies.
+use Rattle.std.proofs.Common.{Err, Ok}
 use Prim.Native.Nat.{ℕ, zero, suc, ◌+◌, ◌-◌, ◌/◌, ◌≤◌, ◌<◌}
 use native.Mathlib.Nat.{le_refl}
 use native.Mathlib.Decide.{dec_lt}
@@ -12,11 +13,9 @@ use lib.Seq.{take-append-le, take-length}
 use borrow.Author.Tests.{ltb-true}
 use Rattle.sheet.specs.declared.Reason.{Reason}
 use Rattle.sheet.specs.declared.Reason.TheVariants.{Room, Full, NotHeld}
-use Rattle.sheet.specs.declared.Verdict.{Verdict}
-use Rattle.sheet.specs.declared.Verdict.TheVariants.{Fine, Refused}
 use Rattle.sheet.specs.declared.edition.Edition.{Edition}
 use Rattle.sheet.specs.Editions.{record_bytes, replay_records}
-use Rattle.sheet.specs.Reasons.{number_of, unless, and_then}
+use Rattle.sheet.specs.Reasons.{Verdict, number_of, unless, and_then}
 use Rattle.sheet.specs.Records.{Record, node, drop, reads}
 use Rattle.sheet.specs.Fields.{fields_of, reading, record_at}
 use Rattle.sheet.specs.Checks.{check_lengths}
@@ -40,10 +39,10 @@ use Rattle.replay_spec.proofs.Accepts.{held-ending, mirrored-ending}
 
 -- ---- the lengths
 
-fine-after : (v : Verdict) → and_then v (unless true Room Fine) ≡ v
+fine-after : (v : Verdict) → and_then v (unless true Room (Ok tt)) ≡ v
 unfolding and_then unless
-fine-after Fine = refl
-fine-after (Refused why) = refl
+fine-after (Ok tt) = refl
+fine-after (Err why) = refl
 
 module _ (e : Edition) (sheet rules : List ℕ) where
   abbrev lent : Lent
@@ -56,16 +55,16 @@ module _ (e : Edition) (sheet rules : List ℕ) where
   roomy = never (LengthApplies lent) Room (λ a. a)
 
   -- what is lent to a replay is refused for the first reason that applies to the lengths
-  pub replay-refused : (why : Reason) → checked ≡ Refused why → LentRefusedFor lent why
+  pub replay-refused : (why : Reason) → checked ≡ Err why → LentRefusedFor lent why
   replay-refused why q = lent-refused lent true roomy why (fine-after checked ∙ q)
 
-  pub refused-replay : (why : Reason) → LentRefusedFor lent why → checked ≡ Refused why
+  pub refused-replay : (why : Reason) → LentRefusedFor lent why → checked ≡ Err why
   refused-replay why q = sym (fine-after checked) ∙ refused-lent lent true roomy why q
 
-  pub replay-none : checked ≡ Fine → LentFine lent
+  pub replay-none : checked ≡ (Ok tt) → LentFine lent
   replay-none q = lent-fine lent true roomy (fine-after checked ∙ q)
 
-  pub none-replay : LentFine lent → checked ≡ Fine
+  pub none-replay : LentFine lent → checked ≡ (Ok tt)
   none-replay q = sym (fine-after checked) ∙ fine-lent lent true roomy q
 
 -- ---- the end
@@ -135,7 +134,7 @@ module _ (e : Edition) (sheet rules : List ℕ) where
         omega (arith, y.fits, y.sized, counts y.mirrors, y.mirrors.used, in_use-le s.slots, peak_from-append 0 rs (drop n ∷ []))
 
     along-more : (k : ℕ) (rs : List Record) (s : State) → Along k rs s → (r : Record) → reading e true (record_at e sheet k) ≡ reads r
-        → check_record e rules s r ≡ Fine → Along (suc k) (rs ++ (r ∷ [])) (after s r)
+        → check_record e rules s r ≡ (Ok tt) → Along (suc k) (rs ++ (r ∷ [])) (after s r)
     along-more k rs s y r q fine =
         let (p, roomy) = fine-proper e rules rs s y.mirrors r fine in
         record {
@@ -176,7 +175,7 @@ module _ (e : Edition) (sheet rules : List ℕ) where
 module _ (e : Edition) (sheet rules : List ℕ) (slots : List Slot) (n k : ℕ) where
   by_lengths_lem : (v : Verdict) → checked e sheet rules ≡ v → (by_lengths e sheet rules slots v).answer ≡ refused n k → Refuses e sheet rules (length slots) n k
   unfolding by_lengths start nodes_of peak_from
-  by_lengths_lem Fine q a =
+  by_lengths_lem (Ok tt) q a =
       let (rs, fits, why) = refused-from e sheet rules (length slots) (count e sheet rules) 0 [] (start slots) n k
       (record {
         good = record { read = λ j h. absurd (omega arith); each = λ j h. absurd (omega arith) };
@@ -186,7 +185,7 @@ module _ (e : Edition) (sheet rules : List ℕ) (slots : List Slot) (n k : ℕ) 
         sized = length-cleared slots;
       }) (omega arith) a in
       inr (rs, replay-none e sheet rules q, fits, why)
-  by_lengths_lem (Refused why) q a = inl (why, replay-refused e sheet rules why q, cc, cc)
+  by_lengths_lem (Err why) q a = inl (why, replay-refused e sheet rules why q, cc, cc)
 
   refuses : (replay e sheet rules slots).answer ≡ refused n k → Refuses e sheet rules (length slots) n k
   unfolding replay

@@ -1,5 +1,6 @@
 -- The whole replay is the public step, again and again: what a turn comes to, why every state of a replay fits the step, and that the
 -- replay goes on from the state after the steps that were taken.
+use Rattle.std.proofs.Common.{Err, Ok}
 use mathlib.Core.Path.{◌≡◌, refl, sym, ap, ◌∙◌}
 use mathlib.Core.Bool.{true, ◌&&◌, and-eq-true_iff}
 use mathlib.Core.List.{List}
@@ -11,11 +12,9 @@ use lib.ListN.{length}
 use borrow.Author.Tests.{eq-eqb, lt-ltb, le-leb, eqb-true, ltb-true, leb-true}
 use Rattle.base.proofs.Bytes.{length_part}
 use Rattle.sheet.specs.declared.Reason.{Reason}
-use Rattle.sheet.specs.declared.Verdict.{Verdict}
-use Rattle.sheet.specs.declared.Verdict.TheVariants.{Fine, Refused}
 use Rattle.sheet.specs.declared.edition.Edition.{Edition}
 use Rattle.sheet.specs.Editions.{record_bytes, replay_records}
-use Rattle.sheet.specs.Reasons.{number_of}
+use Rattle.sheet.specs.Reasons.{Verdict, number_of}
 use Rattle.sheet.specs.Records.{given, step, Record, node, drop, Reading, reads, unread}
 use Rattle.sheet.specs.Fields.{reading, record_at}
 use Rattle.sheet.specs.Counts.{step_of}
@@ -32,11 +31,11 @@ use Rattle.replay_spec.specs.Replay.{Result, refused, accepted, ending, run, sta
 -- ---- a turn
 
 module _ (e : Edition) (rules b : List ℕ) (s : State) where
-  pub turn-goes : (r : Record) → reading e true b ≡ reads r → check_record e rules s r ≡ Fine → turn e rules b s ≡ goes (after s r)
+  pub turn-goes : (r : Record) → reading e true b ≡ reads r → check_record e rules s r ≡ (Ok tt) → turn e rules b s ≡ goes (after s r)
   unfolding turn by_reading by_verdict
   turn-goes r q v = rw (q, v)
 
-  pub turn-stops : (r : Record) (why : Reason) → reading e true b ≡ reads r → check_record e rules s r ≡ Refused why → turn e rules b s ≡ stops why
+  pub turn-stops : (r : Record) (why : Reason) → reading e true b ≡ reads r → check_record e rules s r ≡ Err why → turn e rules b s ≡ stops why
   unfolding turn by_reading by_verdict
   turn-stops r why q v = rw (q, v)
 
@@ -46,16 +45,16 @@ module _ (e : Edition) (rules b : List ℕ) (s : State) where
 
   -- a turn that goes has read a record, which is fine
   pub turn-went : (t : State) → turn e rules b s ≡ goes t
-      → (r : Record) × (reading e true b ≡ reads r) × (check_record e rules s r ≡ Fine) × (t ≡ after s r)
+      → (r : Record) × (reading e true b ≡ reads r) × (check_record e rules s r ≡ (Ok tt)) × (t ≡ after s r)
   unfolding turn by_reading by_verdict
   turn-went t g = by-reading (reading e true b) refl g
     where
-      by-verdict : (r : Record) (v : Verdict) → check_record e rules s r ≡ v → by_verdict v (after s r) ≡ goes t → (v ≡ Fine) × (t ≡ after s r)
-      by-verdict r Fine q h = (refl, cc)
-      by-verdict r (Refused why) q h = (cc, cc)
+      by-verdict : (r : Record) (v : Verdict) → check_record e rules s r ≡ v → by_verdict v (after s r) ≡ goes t → (v ≡ (Ok tt)) × (t ≡ after s r)
+      by-verdict r (Ok tt) q h = (refl, cc)
+      by-verdict r (Err why) q h = (cc, cc)
 
       by-reading : (w : Reading) → reading e true b ≡ w → by_reading e rules s w ≡ goes t
-          → (r : Record) × (reading e true b ≡ reads r) × (check_record e rules s r ≡ Fine) × (t ≡ after s r)
+          → (r : Record) × (reading e true b ≡ reads r) × (check_record e rules s r ≡ (Ok tt)) × (t ≡ after s r)
       by-reading (reads r) q h = let v = by-verdict r (check_record e rules s r) refl h in (r, q, v.0, v.1)
       by-reading (unread why) q h = let z : ◌≡◌ {A = ℕ} 0 1 = cc in absurd (omega arith)
 
@@ -79,7 +78,7 @@ module _ (e : Edition) (sheet rules : List ℕ) (slots : List Slot) where
       (ap (λ (k : ℕ). run e rules sheet k 0 (start slots)) (ap (λ (k : ℕ). k / record_bytes e) l.0 ∙ record-count e (record_bytes e * n) n refl))
 
   -- past them the slots end free, whatever is answered
-  pub replay-clears : check_lengths e (replay_records e) (length sheet) (length rules) ≡ Fine
+  pub replay-clears : check_lengths e (replay_records e) (length sheet) (length rules) ≡ (Ok tt)
       → replay e sheet rules slots ≡ outcome (replay e sheet rules slots).answer (cleared slots)
   unfolding replay by_lengths
   replay-clears q = rw q
@@ -92,8 +91,8 @@ module _ (e : Edition) (sheet rules : List ℕ) (slots : List Slot) where
       by-verdict : (v : Verdict) → check_lengths e (replay_records e) (length sheet) (length rules) ≡ v
           → (by_lengths e sheet rules slots v).answer ≡ accepted r
           → Lengths e (replay_records e) (length sheet) (length rules) (length sheet / record_bytes e)
-      by-verdict Fine q h = lengths-fine e (replay_records e) (length sheet) (length rules) q
-      by-verdict (Refused why) q h = let z : ◌≡◌ {A = ℕ} 0 1 = cc in absurd (omega arith)
+      by-verdict (Ok tt) q h = lengths-fine e (replay_records e) (length sheet) (length rules) q
+      by-verdict (Err why) q h = let z : ◌≡◌ {A = ℕ} 0 1 = cc in absurd (omega arith)
 
 -- ---- every state of a replay fits
 
@@ -110,7 +109,7 @@ within-counted k t (node (step p l r c)) w = omega arith
 within-counted k t (drop n) w = omega arith
 
 pub fits-within : (e : Edition) (rules b : List ℕ) (t : Tally)
-    → check_table e (length rules) ≡ Fine → length b ≡ record_bytes e → t.next < replay_records e → t.held ≤ t.next → t.steps ≤ t.next
+    → check_table e (length rules) ≡ (Ok tt) → length b ≡ record_bytes e → t.next < replay_records e → t.held ≤ t.next → t.steps ≤ t.next
     → fits e (length rules) (length b) t ≡ true
 unfolding fits passes reached
 fits-within e rules b t table size few held steps =
@@ -145,20 +144,20 @@ step-by-turn e rules b k s t f q = rw f (ap (λ (x : Turn). numbered k (by_turn 
 
 -- ---- a record in a run
 
-fine-goes : (s : State) (t : Turn) → (by_turn s t).verdict ≡ Fine → t ≡ goes (by_turn s t).state
+fine-goes : (s : State) (t : Turn) → (by_turn s t).verdict ≡ (Ok tt) → t ≡ goes (by_turn s t).state
 unfolding by_turn
 fine-goes s (goes t) h = refl
 fine-goes s (stops why) h = cc
 
-refused-stops : (s : State) (t : Turn) (why : Reason) → (by_turn s t).verdict ≡ Refused why → t ≡ stops why
+refused-stops : (s : State) (t : Turn) (why : Reason) → (by_turn s t).verdict ≡ Err why → t ≡ stops why
 unfolding by_turn
 refused-stops s (goes t) why h = cc
 refused-stops s (stops x) why h = ap stops (cc)
 
-taken_fine : (k : ℕ) (v : Verdict) → answered k v ≡ taken → v ≡ Fine
+taken_fine : (k : ℕ) (v : Verdict) → answered k v ≡ taken → v ≡ (Ok tt)
 unfolding answered
-taken_fine k Fine h = refl
-taken_fine k (Refused why) h = cc
+taken_fine k (Ok tt) h = refl
+taken_fine k (Err why) h = cc
 
 -- record k of a sheet of n, in a state that is within
 module _ (e : Edition) (sheet rules : List ℕ) (n : ℕ) (l : Lengths e (replay_records e) (length sheet) (length rules) n)
@@ -176,7 +175,7 @@ module _ (e : Edition) (sheet rules : List ℕ) (n : ℕ) (l : Lengths e (replay
   step-turns = step-by-turn e rules (record_at e sheet k) k s (turn e rules (record_at e sheet k) s) record-fits refl
 
   -- fine: the run goes on from the state then, which is within
-  pub turn-goes-on : (m : ℕ) → (by_turn s (turn e rules (record_at e sheet k) s)).verdict ≡ Fine
+  pub turn-goes-on : (m : ℕ) → (by_turn s (turn e rules (record_at e sheet k) s)).verdict ≡ (Ok tt)
       → (run e rules sheet (suc m) k s ≡ run e rules sheet m (suc k) (by_turn s (turn e rules (record_at e sheet k) s)).state)
       × Within (suc k) (by_turn s (turn e rules (record_at e sheet k) s)).state.tally
   unfolding after
@@ -188,7 +187,7 @@ module _ (e : Edition) (sheet rules : List ℕ) (n : ℕ) (l : Lengths e (replay
       (run-goes e rules sheet m k s t g, rw is (within-counted k s.tally r w))
 
   -- refused: that is the answer
-  pub turn-refuses : (m : ℕ) (why : Reason) → (by_turn s (turn e rules (record_at e sheet k) s)).verdict ≡ Refused why
+  pub turn-refuses : (m : ℕ) (why : Reason) → (by_turn s (turn e rules (record_at e sheet k) s)).verdict ≡ Err why
       → run e rules sheet (suc m) k s ≡ refused (number_of why) k
   turn-refuses m why a = run-stops e rules sheet m k s why (refused-stops s (turn e rules (record_at e sheet k) s) why a)
 

@@ -1,13 +1,13 @@
 -- Where a run stops: it goes on past a record that is taken, and stops before one that is refused. So the tally and the slots are those that
 -- the public step leaves.
+use Rattle.std.proofs.Common.{Err, Ok}
 use mathlib.Core.Path.{◌≡◌, refl, sym, ap, ◌∙◌}
 use mathlib.Core.List.{List}
 use Prim.Native.Nat.{ℕ, zero, suc, ◌+◌, ◌-◌, ◌<◌}
 use native.Mathlib.Omega.{arith}
 use lib.ListN.{length}
 use Rattle.sheet.specs.declared.Reason.{Reason}
-use Rattle.sheet.specs.declared.Verdict.{Verdict}
-use Rattle.sheet.specs.declared.Verdict.TheVariants.{Fine, Refused}
+use Rattle.sheet.specs.Reasons.{Verdict}
 use Rattle.sheet.specs.declared.edition.Edition.{Edition}
 use Rattle.sheet.specs.Editions.{replay_records}
 use Rattle.sheet.specs.Fields.{record_at}
@@ -19,27 +19,27 @@ use Rattle.replay_spec.proofs.Steps.{after_steps, answer_at, FirstTaken, steps-w
 
 module _ (e : Edition) (rules sheet : List ℕ) (m k : ℕ) (s : State) where
   by_turn_lem : (t : Turn) → turn e rules (record_at e sheet k) s ≡ t
-      → ((by_turn s t).verdict ≡ Fine → stopped e rules sheet (suc m) k s ≡ stopped e rules sheet m (suc k) (by_turn s t).state)
-      × ((why : Reason) → (by_turn s t).verdict ≡ Refused why → (stopped e rules sheet (suc m) k s ≡ s) × ((by_turn s t).state ≡ s))
+      → ((by_turn s t).verdict ≡ (Ok tt) → stopped e rules sheet (suc m) k s ≡ stopped e rules sheet m (suc k) (by_turn s t).state)
+      × ((why : Reason) → (by_turn s t).verdict ≡ Err why → (stopped e rules sheet (suc m) k s ≡ s) × ((by_turn s t).state ≡ s))
   unfolding stopped by_turn
   by_turn_lem (goes u) q = ((λ h. rw (q, stopped)), (λ why h. (cc, cc)))
   by_turn_lem (stops x) q = ((λ h. cc), (λ why h. (rw (q, stopped), refl)))
 
-  pub stopped-goes-on : (by_turn s (turn e rules (record_at e sheet k) s)).verdict ≡ Fine
+  pub stopped-goes-on : (by_turn s (turn e rules (record_at e sheet k) s)).verdict ≡ (Ok tt)
       → stopped e rules sheet (suc m) k s ≡ stopped e rules sheet m (suc k) (by_turn s (turn e rules (record_at e sheet k) s)).state
   stopped-goes-on h = (by_turn_lem (turn e rules (record_at e sheet k) s) refl).0 h
 
   -- and then the state is as it was
-  pub stopped-refused : (why : Reason) → (by_turn s (turn e rules (record_at e sheet k) s)).verdict ≡ Refused why
+  pub stopped-refused : (why : Reason) → (by_turn s (turn e rules (record_at e sheet k) s)).verdict ≡ Err why
       → (stopped e rules sheet (suc m) k s ≡ s) × ((by_turn s (turn e rules (record_at e sheet k) s)).state ≡ s)
   stopped-refused why h = (by_turn_lem (turn e rules (record_at e sheet k) s) refl).1 why h
 
 -- ---- the public step, again and again
 
-taken-or-not : (k : ℕ) (v : Verdict) → (answered k v ≡ taken → v ≡ Fine) × ((answered k v ≡ taken → ⊥) → (why : Reason) × (v ≡ Refused why))
+taken-or-not : (k : ℕ) (v : Verdict) → (answered k v ≡ taken → v ≡ (Ok tt)) × ((answered k v ≡ taken → ⊥) → (why : Reason) × (v ≡ Err why))
 unfolding answered
-taken-or-not k Fine = ((λ h. refl), (λ h. absurd (h refl)))
-taken-or-not k (Refused why) = ((λ h. cc), (λ h. (why, refl)))
+taken-or-not k (Ok tt) = ((λ h. refl), (λ h. absurd (h refl)))
+taken-or-not k (Err why) = ((λ h. cc), (λ h. (why, refl)))
 
 module _ (e : Edition) (sheet rules : List ℕ) (slots : List Slot) (n : ℕ) (l : Lengths e (replay_records e) (length sheet) (length rules) n) where
   module _ (k : ℕ) (h : k < n) (first : FirstTaken e rules sheet (start slots) k) where

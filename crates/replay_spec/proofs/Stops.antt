@@ -1,4 +1,5 @@
 -- A record stops the replay for exactly the first reason that applies to it.
+use Rattle.std.proofs.Common.{Err, Ok}
 use Prim.Native.Nat.{ℕ, zero, suc, ◌<◌}
 use mathlib.Core.Path.{◌≡◌, refl, sym, ap, ◌∙◌}
 use mathlib.Core.Bool.{Bool, true, false, not, ◌&&◌, ◌||◌, cond, true≢false}
@@ -12,11 +13,9 @@ use borrow.Author.Tests.{eq-eqb, ne_eqb, ltb-true, ltb-false, lt-ltb}
 use Rattle.clause.specs.Clauses.{Literals, plus, minus, holds, inside, both_ways, alike, resolvent}
 use Rattle.sheet.specs.declared.Reason.{Reason}
 use Rattle.sheet.specs.declared.Reason.TheVariants.{Kind, NotZero, Pivot, NotEarlier, Dropped, PivotMissing, LiteralMissing, LiteralTooMany, NoLine, LineDiffers, SaysNothing, Full}
-use Rattle.sheet.specs.declared.Verdict.{Verdict}
-use Rattle.sheet.specs.declared.Verdict.TheVariants.{Fine, Refused}
 use Rattle.sheet.specs.declared.edition.Edition.{Edition}
 use Rattle.sheet.specs.Editions.{variables}
-use Rattle.sheet.specs.Reasons.{unless, and_then}
+use Rattle.sheet.specs.Reasons.{Verdict, unless, and_then}
 use Rattle.sheet.specs.Records.{given, step, Record, node, drop, reads, unread}
 use Rattle.sheet.specs.Fields.{Fields, fields_of, when_zero, read_given, read_step, read_drop, read_fields, reading, rule_lines, rule_line}
 use Rattle.sheet.specs.Checks.{check_earlier, check_result, check_step, check_one_way, check_given}
@@ -31,20 +30,20 @@ use Rattle.replay_spec.specs.Refused.{place_after}
 use Rattle.replay_spec.proofs.Slots.{in_use-le}
 use Rattle.replay_spec.proofs.Mirrors.{Mirrors, numbered, counts, room-counted}
 
-verdict-stops : (v : Verdict) (s : State) (why : Reason) → by_verdict v s ≡ stops why → v ≡ Refused why
+verdict-stops : (v : Verdict) (s : State) (why : Reason) → by_verdict v s ≡ stops why → v ≡ Err why
 unfolding by_verdict
-verdict-stops Fine s why q = cc
-verdict-stops (Refused r) s why q = cc
+verdict-stops (Ok tt) s why q = cc
+verdict-stops (Err r) s why q = cc
 
-stops-verdict : (v : Verdict) (s : State) (why : Reason) → v ≡ Refused why → by_verdict v s ≡ stops why
+stops-verdict : (v : Verdict) (s : State) (why : Reason) → v ≡ Err why → by_verdict v s ≡ stops why
 unfolding by_verdict
 stops-verdict v s why q = rw q
 
 -- ---- the checks of a record as one chain
 
 given-once : (a b c r : Bool)
-    → first_of (unless a NoLine (unless b LineDiffers (unless c SaysNothing Fine)) ∷ unless r Full Fine ∷ [])
-    ≡ unless a NoLine (unless b LineDiffers (unless c SaysNothing (unless r Full Fine)))
+    → first_of (unless a NoLine (unless b LineDiffers (unless c SaysNothing (Ok tt))) ∷ unless r Full (Ok tt) ∷ [])
+    ≡ unless a NoLine (unless b LineDiffers (unless c SaysNothing (unless r Full (Ok tt))))
 unfolding first_of and_then unless
 given-once true true true true = refl
 given-once true true true false = refl
@@ -57,8 +56,8 @@ abbrev kept : Bool → Bool → Bool
 kept held earlier = held || not earlier
 
 resolved-once : (x y z r : Bool)
-    → and_then (unless x PivotMissing (unless y LiteralMissing (unless z LiteralTooMany Fine))) (and_then (unless r Full Fine) Fine)
-    ≡ unless x PivotMissing (unless y LiteralMissing (unless (not y || z) LiteralTooMany (unless r Full Fine)))
+    → and_then (unless x PivotMissing (unless y LiteralMissing (unless z LiteralTooMany (Ok tt)))) (and_then (unless r Full (Ok tt)) (Ok tt))
+    ≡ unless x PivotMissing (unless y LiteralMissing (unless (not y || z) LiteralTooMany (unless r Full (Ok tt))))
 unfolding and_then unless
 resolved-once true true true true = refl
 resolved-once true true true false = refl
@@ -70,16 +69,16 @@ resolved-once false y z r = refl
 module _ (r x y z x' y' z' : Bool) where
   step-once : (a b c d : Bool) → (c ≡ true → d ≡ true → (x ≡ x') × (y ≡ y') × (z ≡ z'))
       → first_of
-      (unless a NotEarlier Fine
-      ∷ unless b NotEarlier Fine
-      ∷ unless c Dropped Fine
-      ∷ unless d Dropped Fine
-      ∷ unless x PivotMissing (unless y LiteralMissing (unless z LiteralTooMany Fine))
-      ∷ unless r Full Fine
+      (unless a NotEarlier (Ok tt)
+      ∷ unless b NotEarlier (Ok tt)
+      ∷ unless c Dropped (Ok tt)
+      ∷ unless d Dropped (Ok tt)
+      ∷ unless x PivotMissing (unless y LiteralMissing (unless z LiteralTooMany (Ok tt)))
+      ∷ unless r Full (Ok tt)
       ∷ [])
       ≡ unless (a && b) NotEarlier
       (unless (kept c a && kept d b) Dropped (unless x' PivotMissing
-      (unless y' LiteralMissing (unless (not y' || z') LiteralTooMany (unless r Full Fine)))))
+      (unless y' LiteralMissing (unless (not y' || z') LiteralTooMany (unless r Full (Ok tt))))))
   unfolding first_of and_then unless
   step-once false b c d f = refl
   step-once true false c d f = refl
@@ -87,7 +86,7 @@ module _ (r x y z x' y' z' : Bool) where
   step-once true true true false f = refl
   step-once true true true true f = let same = f refl refl in rw (same.0, same.1, same.2) (resolved-once x' y' z' r)
 
-drop-once : (a c : Bool) → first_of (unless a NotEarlier Fine ∷ unless c Dropped Fine ∷ []) ≡ unless a NotEarlier (unless (kept c a) Dropped Fine)
+drop-once : (a c : Bool) → first_of (unless a NotEarlier (Ok tt) ∷ unless c Dropped (Ok tt) ∷ []) ≡ unless a NotEarlier (unless (kept c a) Dropped (Ok tt))
 unfolding first_of and_then unless
 drop-once true true = refl
 drop-once true false = refl
@@ -236,7 +235,7 @@ module _ (e : Edition) (rules : List ℕ) (rs : List Record) (s : State) (m : Mi
       (unless (keeps f.left && keeps f.right) Dropped
       (unless (pivoted left right) PivotMissing
       (unless (lacks_none left right) LiteralMissing
-      (unless (not (lacks_none left right) || has_no_more left right) LiteralTooMany (unless (room s.slots) Full Fine)))))
+      (unless (not (lacks_none left right) || has_no_more left right) LiteralTooMany (unless (room s.slots) Full (Ok tt))))))
   unfolding check_record check_earlier check_held check_step check_result check_room
   step-checks = rw (numbered m) (step-once (room s.slots) _ _ _ (pivoted left right) (lacks_none left right) (has_no_more left right) (ltb f.left next) (ltb f.right next)
       (held f.left s.slots) (held f.right s.slots)
@@ -257,7 +256,7 @@ module _ (e : Edition) (rules : List ℕ) (rs : List Record) (s : State) (m : Mi
   abbrev zeros : Bool
   zeros = eqb f.pivot 0 && eqb f.right 0 && eqb f.line 0 && eqb f.clause.positive 0 && eqb f.clause.negative 0
 
-  drop-checks : check_record e rules s drop_here ≡ unless (ltb f.left next) NotEarlier (unless (keeps f.left) Dropped Fine)
+  drop-checks : check_record e rules s drop_here ≡ unless (ltb f.left next) NotEarlier (unless (keeps f.left) Dropped (Ok tt))
   unfolding check_record check_earlier check_held
   drop-checks = rw (numbered m) (drop-once (ltb f.left next) (held f.left s.slots))
 
@@ -278,7 +277,7 @@ module _ (e : Edition) (rules : List ℕ) (rs : List Record) (s : State) (m : Mi
 
   -- a turn that goes by a chain stops as the chain refuses
   by_chain : (why : Reason) (v : Verdict) (t : State) → here ≡ by_verdict v t
-      → (v ≡ Refused why → RefusedFor place f why) × (RefusedFor place f why → v ≡ Refused why) → Stops why
+      → (v ≡ Err why → RefusedFor place f why) × (RefusedFor place f why → v ≡ Err why) → Stops why
   by_chain why v t is y = (λ q. y.0 (verdict-stops v t why (sym is ∙ q)), λ r. is ∙ stops-verdict v t why (y.1 r))
 
   given-stops : (why : Reason) → f.kind ≡ 1 → Stops why

@@ -1,12 +1,10 @@
 -- The whole replay: checks 1 to 4, then record by record, then 16.
-use Rattle.std.specs.Prelude.{ℕ, zero, suc, ◌/◌, List, length}
+use Rattle.std.specs.Prelude.{ℕ, zero, suc, ◌/◌, List, length, Ok, Err}
 use Rattle.clause.specs.Clauses.{Literals}
 use Rattle.sheet.specs.declared.Reason.TheVariants.{NotHeld}
-use Rattle.sheet.specs.declared.Verdict.{Verdict}
-use Rattle.sheet.specs.declared.Verdict.TheVariants.{Fine, Refused}
 use Rattle.sheet.specs.declared.edition.Edition.{Edition}
 use Rattle.sheet.specs.Editions.{record_bytes, replay_records}
-use Rattle.sheet.specs.Reasons.{number_of}
+use Rattle.sheet.specs.Reasons.{Verdict, number_of}
 use Rattle.sheet.specs.Fields.{record_at}
 use Rattle.sheet.specs.Checks.{check_lengths}
 use Rattle.tally.specs.Tally.{Tally, nothing}
@@ -68,8 +66,8 @@ outcome a slots = record { answer = a; slots = slots }
 
 -- "A replay refused by 1 to 4 leaves the slots alone; every other replay, accepted too, ends with all slots free and zero."
 unfoldable pub by_lengths : Edition → List ℕ → List ℕ → List Slot → Verdict → Outcome
-by_lengths e sheet rules slots Fine = outcome (run e rules sheet (length sheet / record_bytes e) 0 (start slots)) (cleared slots)
-by_lengths e sheet rules slots (Refused why) = outcome (refused (number_of why) 0) slots
+by_lengths e sheet rules slots (Ok tt) = outcome (run e rules sheet (length sheet / record_bytes e) 0 (start slots)) (cleared slots)
+by_lengths e sheet rules slots (Err why) = outcome (refused (number_of why) 0) slots
 
 unfoldable pub replay : Edition → List ℕ → List ℕ → List Slot → Outcome
 replay e sheet rules slots = by_lengths e sheet rules slots (check_lengths e (replay_records e) (length sheet) (length rules))

@@ -1,12 +1,10 @@
 -- One record of the replay: the tally and the slots before it, its checks, and the tally and the slots after it.
-use Rattle.std.specs.Prelude.{ℕ, Bool, true, false, ◌&&◌, cond, List, [], ◌∷◌, eqb, ltb, leb, length}
+use Rattle.std.specs.Prelude.{ℕ, Bool, true, false, ◌&&◌, cond, List, [], ◌∷◌, eqb, ltb, leb, length, Ok, Err}
 use Rattle.sheet.specs.declared.Reason.{Reason}
 use Rattle.sheet.specs.declared.Reason.TheVariants.{Dropped, Full}
-use Rattle.sheet.specs.declared.Verdict.{Verdict}
-use Rattle.sheet.specs.declared.Verdict.TheVariants.{Fine, Refused}
 use Rattle.sheet.specs.declared.edition.Edition.{Edition}
 use Rattle.sheet.specs.Editions.{record_bytes, replay_records}
-use Rattle.sheet.specs.Reasons.{number_of, unless, and_then}
+use Rattle.sheet.specs.Reasons.{Verdict, number_of, unless, and_then}
 use Rattle.sheet.specs.Records.{given, step, Record, node, drop, clause, Reading, reads, unread}
 use Rattle.sheet.specs.Fields.{reading}
 use Rattle.sheet.specs.Checks.{check_table, check_earlier, check_step, check_given}
@@ -24,15 +22,15 @@ state t slots = record { tally = t; slots = slots }
 
 -- 10: named node was dropped
 unfoldable pub check_held : List Slot → ℕ → Verdict
-check_held slots n = unless (held n slots) Dropped Fine
+check_held slots n = unless (held n slots) Dropped (Ok tt)
 
 -- 15: node record, and every slot holds a node
 unfoldable pub check_room : List Slot → Verdict
-check_room slots = unless (room slots) Full Fine
+check_room slots = unless (room slots) Full (Ok tt)
 
 -- the first of them that refuses
 unfoldable pub first_of : List Verdict → Verdict
-first_of [] = Fine
+first_of [] = (Ok tt)
 first_of (v ∷ rest) = and_then v (first_of rest)
 
 -- the first number that applies: 9, 10, 11, 12 and 18, 15 of a step; 13, 14 and 17, 15 of a given record; 9, 10 of a drop
@@ -64,8 +62,8 @@ pub data Turn : Type 0 where
   stops : Reason → Turn
 
 unfoldable pub by_verdict : Verdict → State → Turn
-by_verdict Fine s = goes s
-by_verdict (Refused why) s = stops why
+by_verdict (Ok tt) s = goes s
+by_verdict (Err why) s = stops why
 
 unfoldable pub by_reading : Edition → List ℕ → State → Reading → Turn
 by_reading e rules s (reads r) = by_verdict (check_record e rules s r) (after s r)
@@ -84,16 +82,16 @@ abbrev pub judged : Verdict → State → Judged
 judged v s = record { verdict = v; state = s }
 
 unfoldable pub by_turn : State → Turn → Judged
-by_turn s (goes t) = judged Fine t
-by_turn s (stops why) = judged (Refused why) s
+by_turn s (goes t) = judged (Ok tt) t
+by_turn s (stops why) = judged (Err why) s
 
 -- ---- one step, for whoever lends the state
 
 -- What a caller can lend that no replay within its limit has: a record of another length, a rule table that check 4 refuses, a tally
 -- that is not reached.
 unfoldable pub passes : Verdict → Bool
-passes Fine = true
-passes (Refused why) = false
+passes (Ok tt) = true
+passes (Err why) = false
 
 unfoldable pub reached : Edition → Tally → Bool
 reached e t = ltb t.next (replay_records e) && leb t.held t.next && leb t.steps t.next
@@ -108,8 +106,8 @@ pub data Step : Type 0 where
   unfit : Step
 
 unfoldable pub answered : ℕ → Verdict → Step
-answered k Fine = taken
-answered k (Refused why) = refused (number_of why) k
+answered k (Ok tt) = taken
+answered k (Err why) = refused (number_of why) k
 
 -- the answer, and the tally and the slots then
 pub record Stepped : Type 0 where

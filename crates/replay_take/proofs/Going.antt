@@ -1,4 +1,5 @@
 -- How far a run has come: what the loop over the records keeps, why a record that is taken keeps it, and what it comes to where one is not, or none is left.
+use Rattle.std.proofs.Common.{Err, Ok}
 use mathlib.Core.Path.{◌≡◌, refl, sym, ap, ap₂, ◌∙◌}
 use mathlib.Core.Bool.{true, false}
 use mathlib.Core.List.{List}
@@ -8,8 +9,7 @@ use native.Mathlib.Omega.{arith}
 use lib.ListN.{length}
 use Rattle.sheet.specs.declared.edition.Edition.{Edition}
 use Rattle.sheet.specs.Editions.{record_bytes, replay_records}
-use Rattle.sheet.specs.declared.Verdict.{Verdict}
-use Rattle.sheet.specs.declared.Verdict.TheVariants.{Fine, Refused}
+use Rattle.sheet.specs.Reasons.{Verdict}
 use Rattle.sheet.specs.Checks.{check_lengths}
 use Rattle.sheet.specs.Fields.{record_at}
 use Rattle.sheet.proofs.RecordBytes.{lent, lent_is}
@@ -32,19 +32,19 @@ pub goes_none : (e : Edition) (rules sheet : List ℕ) (slots : List Slot) (t : 
 goes_none e rules sheet slots t q =
     rw q (record { within = omega arith; left = λ m o. let all : m ≡ length sheet / record_bytes e = omega arith in rw all })
 
-passed-fine : (v : Verdict) → passes v ≡ true → v ≡ Fine
+passed-fine : (v : Verdict) → passes v ≡ true → v ≡ (Ok tt)
 unfolding passes
-passed-fine Fine h = refl
-passed-fine (Refused why) h = cc
+passed-fine (Ok tt) h = refl
+passed-fine (Err why) h = cc
 
 module _ (e : Edition) (rules sheet : List ℕ) (s₀ : State) (k : ℕ) (s : State) (g : Goes e rules sheet s₀ k s) where
   -- no record is left
   pub goes-all : (n : ℕ) → n ≡ length sheet / record_bytes e → k ≡ n
-      → ran (ended Fine n s.tally (look (last_of s.tally.next) s.slots)) s ≡ ran_through e rules sheet (length sheet / record_bytes e) 0 s₀
+      → ran (ended (Ok tt) n s.tally (look (last_of s.tally.next) s.slots)) s ≡ ran_through e rules sheet (length sheet / record_bytes e) 0 s₀
   unfolding run stopped
   goes-all n q o = ap (λ (a : Answer). ran a s) (ends-in n s) ∙ sym (g.left 0 (omega arith) ∙ ap (λ (i : ℕ). ran (ending i s) s) o)
 
-  module _ (h : k < length sheet / record_bytes e) (fine : check_lengths e (replay_records e) (length sheet) (length rules) ≡ Fine) where
+  module _ (h : k < length sheet / record_bytes e) (fine : check_lengths e (replay_records e) (length sheet) (length rules) ≡ (Ok tt)) where
     lengths : Lengths e (replay_records e) (length sheet) (length rules) (length sheet / record_bytes e)
     lengths = lengths-fine e (replay_records e) (length sheet) (length rules) fine
 
@@ -66,7 +66,7 @@ module _ (e : Edition) (rules sheet : List ℕ) (s₀ : State) (k : ℕ) (s : St
       goes_on q =
           let on = turn-goes-on e sheet rules (length sheet / record_bytes e) lengths k h s g.within in
           let now : t ≡ (by_turn s (turn e rules (record_at e sheet k) s)).state = ap (λ (y : Judged). y.state) is in
-          let w = says Fine (passed-fine v q) in
+          let w = says (Ok tt) (passed-fine v q) in
           rw (now, add-one)
           (record { within = (on 0 w).1; left = λ m o. g.left (suc m) (omega arith) ∙ ap₂ ran (on m w).0 (stopped-goes-on e rules sheet m k s w) })
 
@@ -76,11 +76,11 @@ module _ (e : Edition) (rules sheet : List ℕ) (s₀ : State) (k : ℕ) (s : St
       goes-no-more q u p = by-verdict v refl q
         where
           by-verdict : (w : Verdict) → v ≡ w → passes w ≡ false → ran (ended w k u p) t ≡ ran_through e rules sheet (length sheet / record_bytes e) 0 s₀
-          by-verdict Fine o z = cc
-          by-verdict (Refused why) o z =
+          by-verdict (Ok tt) o z = cc
+          by-verdict (Err why) o z =
               let m = length sheet / record_bytes e - suc k in
-              let (stays, same) = stopped-refused e rules sheet m k s why (says (Refused why) o) in
+              let (stays, same) = stopped-refused e rules sheet m k s why (says (Err why) o) in
               sym
               (g.left (suc m) (omega arith)
-              ∙ ap₂ ran (turn-refuses e sheet rules (length sheet / record_bytes e) lengths k h s g.within m why (says (Refused why) o))
+              ∙ ap₂ ran (turn-refuses e sheet rules (length sheet / record_bytes e) lengths k h s g.within m why (says (Err why) o))
               (stays ∙ sym (ap (λ (y : Judged). y.state) is ∙ same)))

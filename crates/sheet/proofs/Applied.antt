@@ -1,4 +1,5 @@
 -- The tests of a record of each kind, in the order in which they are tried: each fails exactly when its reason applies.
+use Rattle.std.proofs.Common.{Err}
 use Prim.Native.Nat.{ℕ, ◌<◌}
 use mathlib.Core.Path.{◌≡◌, refl, sym, ap, ap₂, ◌∙◌}
 use mathlib.Core.Bool.{Bool, true, false, not, ◌&&◌, ◌||◌, true≢false}
@@ -12,7 +13,6 @@ use Rattle.clause.specs.Clauses.{Literals, literals, plus, minus, holds, Within,
 use Rattle.clause.proofs.Clauses.{alike_same, alike_self, inside_of, inside-holds, inside-same, both-ways-meets, meets-both-ways}
 use Rattle.sheet.specs.declared.Reason.{Reason}
 use Rattle.sheet.specs.declared.Reason.TheVariants.{Kind, NotZero, Pivot, NotEarlier, Dropped, PivotMissing, LiteralMissing, LiteralTooMany, NoLine, LineDiffers, SaysNothing, Full}
-use Rattle.sheet.specs.declared.Verdict.TheVariants.{Refused}
 use Rattle.sheet.specs.Editions.{variables}
 use Rattle.sheet.specs.Fields.{Fields, rule_lines, rule_line}
 use Rattle.sheet.specs.Counts.{nodes_of}
@@ -73,7 +73,7 @@ module _ (p : Place) (f : Fields) where
 
   -- a record is refused by such tests for the first reason that applies to it
   abbrev pub Tried : List Test → Reason → Type 0
-  Tried ts why = (chain ts ≡ Refused why → RefusedFor p f why) × (RefusedFor p f why → chain ts ≡ Refused why)
+  Tried ts why = (chain ts ≡ Err why → RefusedFor p f why) × (RefusedFor p f why → chain ts ≡ Err why)
 
   -- ---- a given record, with a test of the slots
 

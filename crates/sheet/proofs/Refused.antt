@@ -1,4 +1,5 @@
 -- A chain of tests refuses for the first of its reasons that applies, and for no other.
+use Rattle.std.proofs.Common.{Err, Ok}
 use Prim.Native.Nat.{ℕ, ◌/◌, ◌%◌}
 use mathlib.Core.Path.{◌≡◌, refl}
 use mathlib.Core.Bool.{Bool, true, false, not, ◌&&◌}
@@ -9,11 +10,9 @@ use lib.Dec.{eqb, leb}
 use borrow.Author.Tests.{eqb-true, eqb-false, leb-true, leb-false, not-true, not-false}
 use Rattle.sheet.specs.declared.Reason.{Reason}
 use Rattle.sheet.specs.declared.Reason.TheVariants.{Ragged, Empty, Long, Table, Room}
-use Rattle.sheet.specs.declared.Verdict.{Verdict}
-use Rattle.sheet.specs.declared.Verdict.TheVariants.{Fine, Refused}
 use Rattle.sheet.specs.declared.edition.Edition.{Edition}
 use Rattle.sheet.specs.Editions.{record_bytes, line_bytes, table_lines}
-use Rattle.sheet.specs.Reasons.{unless, and_then}
+use Rattle.sheet.specs.Reasons.{Verdict, unless, and_then}
 use Rattle.sheet.specs.Checks.{check_table, check_lengths}
 use Rattle.sheet.specs.Refusals.{FirstOf, NoneOf, Lent, LengthApplies, LentRefusedFor, LentFine}
 
@@ -22,7 +21,7 @@ pub data Test : Type 0 where
   test : Bool → Reason → Test
 
 unfoldable pub chain : List Test → Verdict
-chain [] = Fine
+chain [] = (Ok tt)
 chain (test b why ∷ ts) = unless b why (chain ts)
 
 abbrev pub reasons : List Test → List Reason
@@ -38,13 +37,13 @@ TellAll A [] = Unit {0}
 TellAll A (test b why ∷ ts) = Tells A b why × TellAll A ts
 
 module _ (A : Reason → Type 0) where
-  pub refused-first : (ts : List Test) (why : Reason) → TellAll A ts → chain ts ≡ Refused why → FirstOf A (reasons ts) why
+  pub refused-first : (ts : List Test) (why : Reason) → TellAll A ts → chain ts ≡ Err why → FirstOf A (reasons ts) why
   unfolding chain unless
   refused-first [] why f q = let z : ◌≡◌ {A = ℕ} 0 1 = cc in absurd (omega arith)
   refused-first (test true r ∷ ts) why f q = inr (f.0.1 refl, refused-first ts why f.1 q)
   refused-first (test false r ∷ ts) why f q = let z : why ≡ r = cc in inl (z, f.0.0 refl)
 
-  pub first-refused : (ts : List Test) (why : Reason) → TellAll A ts → FirstOf A (reasons ts) why → chain ts ≡ Refused why
+  pub first-refused : (ts : List Test) (why : Reason) → TellAll A ts → FirstOf A (reasons ts) why → chain ts ≡ Err why
   unfolding chain unless
   first-refused [] why f q = absurd q
   first-refused (test true r ∷ ts) why f (inl (e, a)) = absurd (f.0.1 refl a)
@@ -57,13 +56,13 @@ module _ (A : Reason → Type 0) where
   first-applies (r ∷ rs) why (inl (e, a)) = rw e a
   first-applies (r ∷ rs) why (inr (n, rest)) = first-applies rs why rest
 
-  pub fine-none : (ts : List Test) → TellAll A ts → chain ts ≡ Fine → NoneOf A (reasons ts)
+  pub fine-none : (ts : List Test) → TellAll A ts → chain ts ≡ (Ok tt) → NoneOf A (reasons ts)
   unfolding chain unless
   fine-none [] f q = tt
   fine-none (test true r ∷ ts) f q = (f.0.1 refl, fine-none ts f.1 q)
   fine-none (test false r ∷ ts) f q = let z : ◌≡◌ {A = ℕ} 0 1 = cc in absurd (omega arith)
 
-  pub none-fine : (ts : List Test) → TellAll A ts → NoneOf A (reasons ts) → chain ts ≡ Fine
+  pub none-fine : (ts : List Test) → TellAll A ts → NoneOf A (reasons ts) → chain ts ≡ (Ok tt)
   unfolding chain unless
   none-fine [] f q = refl
   none-fine (test true r ∷ ts) f q = none-fine ts f.1 q.1
@@ -112,7 +111,7 @@ module _ (z : Lent) where
   length_tests roomy = sheet_tests ++ (test roomy Room ∷ [])
 
   lengths-chain : (roomy : Bool)
-      → and_then (check_lengths e z.most z.sheet z.rules) (unless roomy Room Fine) ≡ chain (length_tests roomy)
+      → and_then (check_lengths e z.most z.sheet z.rules) (unless roomy Room (Ok tt)) ≡ chain (length_tests roomy)
   unfolding check_lengths check_table chain
   lengths-chain roomy = chain_more sheet_tests (test roomy Room ∷ [])
 
@@ -141,17 +140,17 @@ module _ (z : Lent) where
     )
 
     abbrev checked : Verdict
-    checked = and_then (check_lengths e z.most z.sheet z.rules) (unless roomy Room Fine)
+    checked = and_then (check_lengths e z.most z.sheet z.rules) (unless roomy Room (Ok tt))
 
     -- what is lent is refused for the first reason that applies to its lengths
-    pub lent-refused : (why : Reason) → checked ≡ Refused why → LentRefusedFor z why
+    pub lent-refused : (why : Reason) → checked ≡ Err why → LentRefusedFor z why
     lent-refused why q = refused-first (LengthApplies z) (length_tests roomy) why length-tells (rw (lengths-chain roomy) at q)
 
-    pub refused-lent : (why : Reason) → LentRefusedFor z why → checked ≡ Refused why
+    pub refused-lent : (why : Reason) → LentRefusedFor z why → checked ≡ Err why
     refused-lent why q = rw (lengths-chain roomy) (first-refused (LengthApplies z) (length_tests roomy) why length-tells q)
 
-    pub lent-fine : checked ≡ Fine → LentFine z
+    pub lent-fine : checked ≡ (Ok tt) → LentFine z
     lent-fine q = fine-none (LengthApplies z) (length_tests roomy) length-tells (rw (lengths-chain roomy) at q)
 
-    pub fine-lent : LentFine z → checked ≡ Fine
+    pub fine-lent : LentFine z → checked ≡ (Ok tt)
     fine-lent q = rw (lengths-chain roomy) (none-fine (LengthApplies z) (length_tests roomy) length-tells q)

@@ -1,13 +1,32 @@
 // The edition of a sheet, and what goes by it. The caller names the edition; bytes never decide it.
 ghost use Rattle.std.specs.Prelude.{◌≡◌, ◌*◌, ◌/◌, ◌≤◌};
-ghost use Rattle.sheet.specs.Editions.{variables, set_bytes, record_bytes, line_bytes, press_records, replay_records, most_records};
+ghost use Rattle.sheet.specs.Editions.{edition_named, variables, set_bytes, record_bytes, line_bytes, press_records, replay_records, most_records};
 
 use crate::{RecordNo, narrow, wide};
 
-#[derive(Clone, Copy)]
+#[derive(Clone, Copy, PartialEq, Eq)]
 pub enum Edition {
     Narrow,
     Wide,
+}
+
+// A number that names no edition.
+#[derive(Clone, Copy, PartialEq, Eq)]
+pub struct NoEdition(pub u32);
+
+impl TryFrom<u32> for Edition {
+    type Error = NoEdition;
+
+    ghost try_from_gives = { λ number r. r ≡ edition_named number };
+
+    #[tactic(auto, unfolding(crate::specs::Editions::edition_named))]
+    fn try_from(number: u32) -> Result<Edition, NoEdition> {
+        match number {
+            0 => Ok(Edition::Narrow),
+            1 => Ok(Edition::Wide),
+            _ => Err(NoEdition(number)),
+        }
+    }
 }
 
 impl Edition {

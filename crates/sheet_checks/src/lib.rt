@@ -7,89 +7,94 @@ ghost use Rattle.sheet.specs.Checks.{check_table, check_lengths, check_earlier, 
 
 use clause::Clause;
 use sheet::edition::Edition;
-use sheet::{LineNo, NodeNo, Reason, Verdict, limits};
+use sheet::{LineNo, NodeNo, Reason, limits};
 use sheet_read::lines;
 
 // 4: rule table isn't a multiple of a line's bytes, or over 1,024 lines.
-pub fn check_table(edition: Edition, rules: usize) -> Verdict
+pub fn check_table(edition: Edition, rules: usize) -> Result<(), Reason>
     ensures { result ≡ check_table edition rules }
 {
     let bytes = edition.line_bytes();
     if rules % bytes == 0 && rules / bytes <= limits::TABLE_LINES {
-        return Verdict::Fine;
+        return Ok(());
     }
-    Verdict::Refused(Reason::Table)
+    Err(Reason::Table)
 }
 
 // 1 to 4, of the lengths alone, with the most records that the caller takes.
-pub fn check_lengths(edition: Edition, most: usize, sheet: usize, rules: usize) -> Verdict
+pub fn check_lengths(
+    edition: Edition,
+    most: usize,
+    sheet: usize,
+    rules: usize,
+) -> Result<(), Reason>
     ensures { result ≡ check_lengths edition most sheet rules }
 {
     let bytes = edition.record_bytes();
     if sheet % bytes != 0 {
-        return Verdict::Refused(Reason::Ragged);
+        return Err(Reason::Ragged);
     }
     if sheet == 0 {
-        return Verdict::Refused(Reason::Empty);
+        return Err(Reason::Empty);
     }
     if most < sheet / bytes {
-        return Verdict::Refused(Reason::Long);
+        return Err(Reason::Long);
     }
     check_table(edition, rules)
 }
 
 // 9: named node isn't earlier.
-pub fn check_earlier(next: NodeNo, n: NodeNo) -> Verdict
+pub fn check_earlier(next: NodeNo, n: NodeNo) -> Result<(), Reason>
     ensures { result ≡ check_earlier next.0 n.0 }
 {
     if n.0 < next.0 {
-        return Verdict::Fine;
+        return Ok(());
     }
-    Verdict::Refused(Reason::NotEarlier)
+    Err(Reason::NotEarlier)
 }
 
 // 12: written clause lacks a literal of the result. 18: it lacks none but has at least one too many.
-fn check_result(c: Clause, res: Clause) -> Verdict
+fn check_result(c: Clause, res: Clause) -> Result<(), Reason>
     ensures { result ≡ check_result (literals_of c) (literals_of res) }
 {
     if clause::inside(res, c) {
         if clause::inside(c, res) {
-            return Verdict::Fine;
+            return Ok(());
         }
-        return Verdict::Refused(Reason::LiteralTooMany);
+        return Err(Reason::LiteralTooMany);
     }
-    Verdict::Refused(Reason::LiteralMissing)
+    Err(Reason::LiteralMissing)
 }
 
 // 11: +p missing on the left or -p on the right.
-pub fn check_step(p: u8, l: Clause, r: Clause, c: Clause) -> Verdict
+pub fn check_step(p: u8, l: Clause, r: Clause, c: Clause) -> Result<(), Reason>
     ensures { result ≡ check_step p (literals_of l) (literals_of r) (literals_of c) }
 {
     if clause::has(l.positive, p) && clause::has(r.negative, p) {
         return check_result(c, clause::resolve(l, r, p));
     }
-    Verdict::Refused(Reason::PivotMissing)
+    Err(Reason::PivotMissing)
 }
 
 // 17: given clause holds a variable both ways.
-fn check_one_way(c: Clause) -> Verdict
+fn check_one_way(c: Clause) -> Result<(), Reason>
     ensures { result ≡ check_one_way (literals_of c) }
 {
     if clause::both_ways(c) {
-        return Verdict::Refused(Reason::SaysNothing);
+        return Err(Reason::SaysNothing);
     }
-    Verdict::Fine
+    Ok(())
 }
 
 // 13: rule line beyond the table. 14: given clause differs from its rule line.
-pub fn check_given(edition: Edition, rules: &[u8], line: LineNo, c: Clause) -> Verdict
+pub fn check_given(edition: Edition, rules: &[u8], line: LineNo, c: Clause) -> Result<(), Reason>
     ensures { result ≡ check_given edition rules.now line.0 (literals_of c) }
 {
     if line.index() < lines::line_count(edition, rules) {
         if clause::same(c, lines::line_at(edition, rules, line)) {
             return check_one_way(c);
         }
-        return Verdict::Refused(Reason::LineDiffers);
+        return Err(Reason::LineDiffers);
     }
-    Verdict::Refused(Reason::NoLine)
+    Err(Reason::NoLine)
 }

@@ -4,10 +4,10 @@
 ghost use Rattle.std.specs.Prelude.{◌≡◌, ◌≤◌, length};
 ghost use Rattle.sheet.specs.Editions.{record_bytes};
 ghost use Rattle.sheet.specs.Fields.{fields_of, read_given, read_step, read_drop, read_fields, reading};
-ghost use Rattle.sheet.specs.Denote.{fields_in, reading_of, verdict_of};
+ghost use Rattle.sheet.specs.Denote.{fields_in, reading_of};
 
 use sheet::edition::Edition;
-use sheet::{Fields, LineNo, NodeNo, Reading, Reason, Record, Verdict, limits};
+use sheet::{Fields, Kind, LineNo, NodeNo, Reason, Record, limits};
 
 fn fields_of(edition: Edition, b: &[u8]) -> Fields
     requires { record_bytes edition ≤ length b.now }
@@ -23,77 +23,64 @@ fn fields_of(edition: Edition, b: &[u8]) -> Fields
     }
 }
 
-fn read_given(f: Fields) -> Reading
+#[tactic(auto, unfolding(sheet::specs::Fields::read_given, sheet::specs::Fields::when_zero, sheet::specs::Denote::reading_of, sheet::specs::Denote::record_of))]
+fn read_given(f: Fields) -> Result<Record, Reason>
     ensures { reading_of result ≡ read_given (fields_in f) }
 {
-    let clause = f.clause;
     if f.pivot == 0 && f.left == 0 && f.right == 0 {
-        return Reading::Reads(Record::Given {
+        return Ok(Record::Given {
             line: LineNo(f.line),
-            clause,
+            clause: f.clause,
         });
     }
-    Reading::Unread(Reason::NotZero)
+    Err(Reason::NotZero)
 }
 
-fn read_step(edition: Edition, f: Fields) -> Reading
+#[tactic(auto, unfolding(sheet::specs::Fields::read_step, sheet::specs::Fields::when_zero, sheet::specs::Denote::reading_of, sheet::specs::Denote::record_of))]
+fn read_step(edition: Edition, f: Fields) -> Result<Record, Reason>
     ensures { reading_of result ≡ read_step edition (fields_in f) }
 {
-    let clause = f.clause;
     if f.line != 0 {
-        return Reading::Unread(Reason::NotZero);
+        return Err(Reason::NotZero);
     }
     if f.pivot < edition.variables() {
-        return Reading::Reads(Record::Step {
+        return Ok(Record::Step {
             pivot: f.pivot,
             left: NodeNo(f.left),
             right: NodeNo(f.right),
-            clause,
+            clause: f.clause,
         });
     }
-    Reading::Unread(Reason::Pivot)
+    Err(Reason::Pivot)
 }
 
-fn read_drop(f: Fields) -> Reading
+#[tactic(auto, unfolding(sheet::specs::Fields::read_drop, sheet::specs::Fields::when_zero, sheet::specs::Denote::reading_of, sheet::specs::Denote::record_of, clause::specs::Clauses::alike))]
+fn read_drop(f: Fields) -> Result<Record, Reason>
     ensures { reading_of result ≡ read_drop (fields_in f) }
 {
-    let none = clause::nothing();
-    if f.pivot == 0 && f.right == 0 && f.line == 0 && clause::same(f.clause, none) {
-        return Reading::Reads(Record::Drop(NodeNo(f.left)));
+    if f.pivot == 0 && f.right == 0 && f.line == 0 && f.clause == clause::nothing() {
+        return Ok(Record::Drop(NodeNo(f.left)));
     }
-    Reading::Unread(Reason::NotZero)
+    Err(Reason::NotZero)
 }
 
-fn read_fields(edition: Edition, f: Fields, drops: bool) -> Reading
+#[tactic(auto, unfolding(sheet::specs::Fields::read_fields, sheet::specs::Denote::reading_of, sheet::specs::Denote::kind_of))]
+fn read_fields(edition: Edition, f: Fields, drops: bool) -> Result<Record, Reason>
     ensures { reading_of result ≡ read_fields edition drops (fields_in f) }
 {
-    let kind = f.kind;
-    if kind == 1 {
-        return read_given(f);
+    match Kind::try_from(f.kind)? {
+        Kind::Given => read_given(f),
+        Kind::Step => read_step(edition, f),
+        Kind::Drop if drops => read_drop(f),
+        Kind::Drop => Err(Reason::Kind),
     }
-    if kind == 2 {
-        return read_step(edition, f);
-    }
-    if kind == 3 && drops {
-        return read_drop(f);
-    }
-    Reading::Unread(Reason::Kind)
 }
 
 // How the bytes of a record read; `drops` says whether a drop is a known kind, as it is for the replay.
-pub fn read_record(edition: Edition, b: &[u8], drops: bool) -> Reading
+#[tactic(auto, unfolding(sheet::specs::Fields::reading))]
+pub fn read_record(edition: Edition, b: &[u8], drops: bool) -> Result<Record, Reason>
     requires { record_bytes edition ≤ length b.now }
     ensures { reading_of result ≡ reading edition drops b.now }
 {
     read_fields(edition, fields_of(edition, b), drops)
-}
-
-// What reading a record says of it, for the else of a `let .. else`, which binds nothing of the other case.
-pub fn verdict_of(r: Reading) -> Verdict
-    ensures { result ≡ verdict_of (reading_of r) }
-{
-    match r {
-        Reading::Reads(_) => Verdict::Fine,
-        Reading::Unread(why) => Verdict::Refused(why),
-    }
 }

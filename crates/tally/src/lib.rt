@@ -2,7 +2,7 @@
 // what it writes with the same one.
 #![tactic(auto)]
 
-ghost use Rattle.std.specs.Prelude.{◌≡◌, ◌-◌, ◌<◌, ◌≤◌};
+ghost use Rattle.std.specs.Prelude.{◌≡◌, ◌<◌, ◌≤◌};
 ghost use Rattle.sheet.specs.Editions.{most_records};
 ghost use Rattle.sheet.specs.Denote.{record_of};
 ghost use Rattle.tally.specs.Tally.{nothing, with_node, without_node, counted};
@@ -30,13 +30,6 @@ pub fn nothing() -> Tally
     }
 }
 
-// What is left of a number when one goes; of none, none.
-pub fn less_one(n: u16) -> u16
-    ensures { result ≡ n - 1 }
-{
-    if n == 0 { 0 } else { n - 1 }
-}
-
 // The tally after a node, which is a step or (0) is none.
 fn with_node(t: Tally, steps: u16) -> Tally
     requires { (t.next < most_records) × (t.held ≤ t.next) × (t.steps ≤ t.next) × (steps ≤ 1) }
@@ -46,7 +39,7 @@ fn with_node(t: Tally, steps: u16) -> Tally
     Tally {
         next: t.next + 1,
         held,
-        peak: base::larger(t.peak, held),
+        peak: t.peak.max(held),
         steps: t.steps + steps,
     }
 }
@@ -56,7 +49,7 @@ fn without_node(t: Tally) -> Tally
 {
     Tally {
         next: t.next,
-        held: less_one(t.held),
+        held: t.held.saturating_sub(1),
         peak: t.peak,
         steps: t.steps,
     }
@@ -68,13 +61,8 @@ pub fn counted(t: Tally, r: Record) -> Tally
     ensures { tally_of result ≡ counted (tally_of t) (record_of r) }
 {
     match r {
-        Record::Given { line: _, clause: _ } => with_node(t, 0),
-        Record::Step {
-            pivot: _,
-            left: _,
-            right: _,
-            clause: _,
-        } => with_node(t, 1),
+        Record::Given { .. } => with_node(t, 0),
+        Record::Step { .. } => with_node(t, 1),
         Record::Drop(_) => without_node(t),
     }
 }

@@ -1,11 +1,11 @@
+use Rattle.std.proofs.Common.{Ok}
 use mathlib.Core.Path.{◌≡◌, sym, ◌∙◌}
 use mathlib.Core.List.{List}
 use native.Mathlib.Omega.{arith}
 use Prim.Native.Nat.{ℕ, ◌/◌, ◌≤◌}
 use lib.ListN.{length}
 use Rattle.sheet.specs.Editions.{record_bytes, most_nodes}
-use Rattle.sheet.specs.declared.Verdict.{Verdict}
-use Rattle.sheet.specs.declared.Verdict.TheVariants.{Fine}
+use Rattle.sheet.specs.Reasons.{Verdict}
 use Rattle.press_spec.specs.declared.Plan.{Plan}
 use Rattle.press_spec.specs.Judge.{check_press}
 use Rattle.press_spec.specs.Press.{call, sizes_of}
@@ -15,7 +15,7 @@ use Rattle.press.proofs.Ready.{few-records, press-refused}
 use Rattle.press.proofs.press.Goals as goal
 
 -- where the lengths are fine there are no more nodes than the tables have room for
-few : (sheet rules out marks : List ℕ) (p : Plan) (v : Verdict) (n : ℕ) → v ≡ check_press p.edition (sizes_of (call sheet rules out marks)) → v ≡ Fine
+few : (sheet rules out marks : List ℕ) (p : Plan) (v : Verdict) (n : ℕ) → v ≡ check_press p.edition (sizes_of (call sheet rules out marks)) → v ≡ (Ok tt)
     → n ≡ length sheet / record_bytes p.edition → n ≤ most_nodes
 few sheet rules out marks p v n e q is = omega (arith, is, few-records p (call sheet rules out marks) (sym e ∙ q))
 

@@ -1,5 +1,4 @@
-use Rattle.std.proofs.Common.{◌≡◌, ◌<◌, ◌/◌, length, sym, ap, ◌∙◌, arith}
-use Rattle.sheet.specs.declared.Verdict.TheVariants.{Fine}
+use Rattle.std.proofs.Common.{◌≡◌, ◌<◌, ◌/◌, length, sym, ap, ◌∙◌, arith, Ok}
 use Rattle.sheet.specs.Editions.{record_bytes}
 use Rattle.tally.specs.Said.{tally_of}
 use Rattle.replay_spec.specs.Slots.{Sought, Place, look}
@@ -67,5 +66,5 @@ returns c =
     let all : c.loop-k.k ≡ n = omega arith in
     let found = c.find-last.ensures ∙ ap (λ (x : Sought). look x (row_of c.loop-k.slots)) c.last_sought.ensures in
     ap (λ (a : Answer). ran a (state (tally_of c.loop-k.t) (row_of c.loop-k.slots)))
-    (c.end-answer-2.ensures ∙ ap (λ (p : Place). ended Fine n (tally_of c.loop-k.t) p) found)
+    (c.end-answer-2.ensures ∙ ap (λ (p : Place). ended (Ok tt) n (tally_of c.loop-k.t) p) found)
     ∙ goes-all _ _ _ _ _ _ c.loop-k.invariant.goes n (rw c.record_bytes-bytes.ensures) all

@@ -1,6 +1,5 @@
 use mathlib.Core.Path.{sym, ap}
-use Rattle.sheet.specs.declared.Verdict.{Verdict}
-use Rattle.sheet.specs.Reasons.{and_then}
+use Rattle.sheet.specs.Reasons.{Verdict, and_then}
 use borrow.Author.Rules.{rules}
 use Rattle.replay_verdict.proofs.and_then.Goals as goal
 

@@ -4,8 +4,7 @@ use mathlib.Core.Path.{◌≡◌, ◌∙◌}
 use mathlib.Core.Bool.{true}
 use Prim.Native.Nat.{ℕ}
 use Rattle.clause.specs.Clauses.{Literals, plus, minus, holds, resolvent}
-use Rattle.sheet.specs.declared.Verdict.{Verdict}
-use Rattle.sheet.specs.Reasons.{unless}
+use Rattle.sheet.specs.Reasons.{Verdict, unless}
 use Rattle.sheet.specs.Checks.{check_result, check_step}
 use Rattle.sheet_checks.proofs.check_step.Goals as goal
 
