@@ -1,12 +1,12 @@
-// Calls of the system over std, each made again where a signal interrupts it: `open` and `fsync` by std itself, `read` and `write` here. A file
-// is closed where it is dropped.
+// Calls of the system over std, each made again where a signal interrupts it: `open` by std itself, `read` and `write` here. A file is closed
+// where it is dropped.
 #![tactic(auto)]
 
-ghost use Rattle.std.specs.Prelude.{IsTrue};
+ghost use Rattle.std.specs.Prelude.{OnOk};
 ghost use Rattle.std.specs.Io.{ReadsAtMost, WritesAtMost};
 ghost use Rattle.std.specs.Io.KnownBytes.{Appends, ReadConsumes, WriteAppends};
 
-use std::fs::{Files, OpenFile, OpenOptions};
+use std::fs::{Files, OpenOptions};
 use std::io::{Error, ErrorKind, Read, Write};
 use std::{fs, io, str};
 
@@ -44,18 +44,19 @@ pub fn open<R: Files>(rt: &R, path: &[u8], how: How) -> io::Result<R::File> {
     options(how).open(rt, text(path)?)
 }
 
+// `read` and `write` stay apart: what a closure that is handed on leaves in the file and the buffer is not known after it, and the clauses of
+// both say just that.
+
 // How many bytes were read, 0 at the end of the file.
 pub fn read<R: Read>(file: &mut R, buffer: &mut [u8]) -> io::Result<usize>
     ensures bound { ReadsAtMost result buffer.new }
     ensures bytes { ReadConsumes (R.remaining file.old) (R.remaining file.new) result buffer.new }
 {
-    let mut turns = TURNS;
-    while 0 < turns {
+    for _ in 0..TURNS {
         match file.read(buffer) {
             Err(e) if e.kind() == ErrorKind::Interrupted => {}
             got => return got,
         }
-        turns -= 1;
     }
     Err(Error::from(ErrorKind::Interrupted))
 }
@@ -65,51 +66,35 @@ fn write<W: Write>(file: &mut W, bytes: &[u8]) -> io::Result<usize>
     ensures bound { WritesAtMost result bytes.now }
     ensures appended { WriteAppends (W.contents file.old) (W.contents file.new) result bytes.now }
 {
-    let mut turns = TURNS;
-    while 0 < turns {
+    for _ in 0..TURNS {
         match file.write(bytes) {
             Err(e) if e.kind() == ErrorKind::Interrupted => {}
             put => return put,
         }
-        turns -= 1;
     }
     Err(Error::from(ErrorKind::Interrupted))
 }
 
-// Whether all of the bytes were written.
-pub fn write_all<W: Write>(file: &mut W, bytes: &[u8]) -> bool
-    ensures { IsTrue result → Appends (W.contents file.old) (W.contents file.new) bytes.now }
+// Writes all of the bytes.
+pub fn write_all<W: Write>(file: &mut W, bytes: &[u8]) -> io::Result<()>
+    ensures { OnOk result (Appends (W.contents file.old) (W.contents file.new) bytes.now) }
 {
-    let mut done = 0;
-    while done < bytes.len() {
-        let Ok(put) = write(file, &bytes[done..]) else {
-            return false;
-        };
+    let mut rest = bytes;
+    while !rest.is_empty() {
+        let put = write(file, rest)?;
         if put == 0 {
-            return false;
+            return Err(Error::from(ErrorKind::WriteZero));
         }
-        done += put;
+        rest = &rest[put..];
     }
-    true
+    Ok(())
 }
 
-// Whether what was written is on the disk.
-pub fn fsync<F: OpenFile>(file: &F) -> bool {
-    file.sync_all().is_ok()
+// Gives the file the other name, and what had it before is gone.
+pub fn rename<R: Files>(rt: &R, from: &[u8], to: &[u8]) -> io::Result<()> {
+    fs::rename(rt, text(from)?, text(to)?)
 }
 
-// Whether the file has the other name now, and what had it before is gone.
-pub fn rename<R: Files>(rt: &R, from: &[u8], to: &[u8]) -> bool {
-    match (text(from), text(to)) {
-        (Ok(from), Ok(to)) => fs::rename(rt, from, to).is_ok(),
-        _ => false,
-    }
-}
-
-// Whether the name is gone.
-pub fn remove<R: Files>(rt: &R, path: &[u8]) -> bool {
-    match text(path) {
-        Ok(path) => fs::remove_file(rt, path).is_ok(),
-        Err(_) => false,
-    }
+pub fn remove<R: Files>(rt: &R, path: &[u8]) -> io::Result<()> {
+    fs::remove_file(rt, text(path)?)
 }

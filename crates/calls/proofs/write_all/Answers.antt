@@ -1,18 +1,16 @@
-use Rattle.std.proofs.Common.{ℕ, ◌+◌, ◌-◌, List, length, take, drop, sym, subst, rules}
+use Rattle.std.proofs.Common.{◌≡◌, ℕ, ◌-◌, List, ◌++◌, length, take, drop, sym, ap, ◌∙◌, append_assoc, take-append-drop}
 use Rattle.std.proofs.lemmas.List.{take_rest}
-use Rattle.std.proofs.Math.Seq.{take-add}
-use Rattle.std.specs.declared.option.Option.{Option}
-use Rattle.std.specs.Io.KnownBytes.{Appends}
 use Rattle.std.proofs.KnownBytes.{Appends-trans}
 use Rattle.calls.proofs.write_all.Goals as goal
 
--- what was appended, and then the first n bytes of the rest
-appended-more : (a b c : Option (List ℕ)) (bytes : List ℕ) (k n : ℕ) → Appends a b (take k bytes) → Appends b c (take n (take (length bytes - k) (drop k bytes)))
-    → Appends a c (take (k + n) bytes)
-appended-more a b c bytes k n p q =
-    let rest = subst (λ (l : List ℕ). Appends b c (take n l)) (take_rest bytes k) q in
-    subst (Appends a c) (sym (take-add k n bytes)) (Appends-trans a b c _ _ p rest)
+-- the first n of what is left come after what is done
+moves_front : (all done rest : List ℕ) (n : ℕ) → all ≡ done ++ rest → all ≡ (done ++ take n rest) ++ take (length rest - n) (drop n rest)
+moves_front all done rest n e =
+    e ∙ ap (λ l. done ++ l) (sym (take-append-drop n rest)) ∙ sym (append_assoc done (take n rest) (drop n rest)) ∙ ap (λ l. (done ++ take n rest) ++ l) (sym (take_rest rest n))
 
-pub loop-done-preserved : goal.loop-done-preserved
-loop-done-preserved g c =
-    (search rules, appended-more _ _ _ c.args.bytes.now _ _ c.loop-done.invariant.1 c.in-Ok.ensures.appended)
+pub loop-rest-preserved : goal.loop-rest-preserved
+loop-rest-preserved g c =
+    let (done, split, appended) = c.loop-rest.invariant in
+    let rest = c.loop-rest.rest.now in
+    let n = c.in_ok-put.put in
+    (done ++ take n rest, moves_front _ done rest n split, Appends-trans _ _ _ _ _ appended c.in_ok-put.ensures.appended)
