@@ -3,11 +3,10 @@
 #![tactic(auto)]
 
 use press::PressAnswer;
-use program_files::Length;
 use sheet::limits::TABLE_LINES;
 use sheet::narrow::{LINE_BYTES, PRESS_RECORDS, PRESSED_RECORDS, RECORD_BYTES};
 use std::fs::Files;
-use stdio::text;
+use std::io;
 
 mod say;
 
@@ -18,24 +17,25 @@ const SHEET: usize = RECORD_BYTES * PRESS_RECORDS;
 
 const PRESSED: usize = RECORD_BYTES * PRESSED_RECORDS;
 
-// Both files are read before anything is judged, "`rules.bin` tried first".
+// The status says nothing of a line that cannot be printed.
 fn main(rt: HostRuntime) {
-    let mut rules = [0u8; RULES];
-    let mut sheet = [0u8; SHEET];
-    let read_rules = program_files::read_file(&rt, b"rules.bin", &mut rules);
-    let Length::Whole(rules_length) = read_rules else {
-        text::print(&rt, b"unreadable rules.bin\n");
-        return;
-    };
-    let read_sheet = program_files::read_file(&rt, b"sheet.bin", &mut sheet);
-    let Length::Whole(sheet_length) = read_sheet else {
-        text::print(&rt, b"unreadable sheet.bin\n");
-        return;
-    };
-    answer(&rt, &sheet, sheet_length, &rules, rules_length);
+    let _ = run(&rt);
 }
 
-fn is_written<R: Files>(rt: &R, bytes: &[u8]) -> bool {
+// Both files are read before anything is judged, "`rules.bin` tried first".
+fn run<R: Files + Print>(rt: &R) -> io::Result<()> {
+    let mut rules = [0u8; RULES];
+    let mut sheet = [0u8; SHEET];
+    let Ok(rules_length) = program_files::read_file(rt, b"rules.bin", &mut rules) else {
+        return println!(rt; "unreadable rules.bin");
+    };
+    let Ok(sheet_length) = program_files::read_file(rt, b"sheet.bin", &mut sheet) else {
+        return println!(rt; "unreadable sheet.bin");
+    };
+    answer(rt, &sheet, sheet_length, &rules, rules_length)
+}
+
+fn write_pressed<R: Files>(rt: &R, bytes: &[u8]) -> io::Result<()> {
     let mut part = *b"pressed.bin.part0";
     program_files::replace(rt, b"pressed.bin", &mut part, bytes)
 }
@@ -47,7 +47,7 @@ fn answer<R: Files + Print>(
     sheet_length: usize,
     rules: &[u8; RULES],
     rules_length: usize,
-) {
+) -> io::Result<()> {
     let mut out = [0u8; PRESSED];
     let mut marks = [0u8; TABLE_LINES];
     let answer = program_whole::press_whole(
@@ -61,10 +61,9 @@ fn answer<R: Files + Print>(
     match answer {
         PressAnswer::Accepted(pressed) => {
             let end = program_whole::record_bytes(pressed);
-            if is_written(rt, &out[..end]) {
-                say::accepted(rt, pressed);
-            } else {
-                text::print(rt, b"unwritable pressed.bin\n");
+            match write_pressed(rt, &out[..end]) {
+                Ok(()) => say::accepted(rt, pressed),
+                Err(_) => println!(rt; "unwritable pressed.bin"),
             }
         }
         PressAnswer::Refused(why, k) => say::refused(rt, why, k),
