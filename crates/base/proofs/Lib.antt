@@ -2,3 +2,4 @@ pub mod Folds
 pub mod Bytes
 pub mod Flat
 pub mod Lists
+pub mod Stored

@@ -82,12 +82,12 @@ fn header_of(bytes: &[u8; HEADER]) -> Header {
         edition: edition_of(bytes[1]),
         recycling: recycling_of(bytes[2]),
         lowering: lowering_of(bytes[3]),
-        sheet: base::wide(base::u16_at(bytes, 4)),
-        rules: base::wide(base::u16_at(bytes, 6)),
-        room: base::wide(base::u16_at(bytes, 8)),
-        marks: base::wide(base::u16_at(bytes, 10)),
-        sheet_follows: base::wide(base::u16_at(bytes, 12)),
-        rules_follows: base::wide(base::u16_at(bytes, 14)),
+        sheet: usize::from(base::u16_at(bytes, 4)),
+        rules: usize::from(base::u16_at(bytes, 6)),
+        room: usize::from(base::u16_at(bytes, 8)),
+        marks: usize::from(base::u16_at(bytes, 10)),
+        sheet_follows: usize::from(base::u16_at(bytes, 12)),
+        rules_follows: usize::from(base::u16_at(bytes, 14)),
     }
 }
 

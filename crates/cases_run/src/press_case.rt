@@ -62,7 +62,7 @@ fn print_memory(
     out: &[u8],
     marks: &[u8],
 ) {
-    let bytes = edition.record_bytes() * base::wide(records);
+    let bytes = edition.record_bytes() * usize::from(records);
     let n = stdio::least(bytes, out.len());
     let m = stdio::least(lines, marks.len());
     text::print(rt, b"\nout ");

@@ -55,5 +55,5 @@ pub fn used_after(last: &[u16], k: NodeNo, n: NodeNo) -> bool
     ensures { result ≡ used_after last.now k.0 n.0 }
 {
     let at = n.index();
-    k.index() + 1 < base::wide(last[at])
+    k.index() + 1 < usize::from(last[at])
 }

@@ -59,7 +59,7 @@ fn peak_with(links: &[u64], last: &mut [u16]) -> u16
     let mut k = 0;
     while k < links.len() {
         let more = held + 1;
-        peak = base::larger(peak, more);
+        peak = peak.max(more);
         let gone = dropped_after(links, last, NodeNo(k as u16));
         held = less(more, gone);
         k += 1;

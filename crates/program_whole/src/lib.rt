@@ -58,5 +58,5 @@ pub fn press_whole(
 pub fn record_bytes(pressed: Pressed) -> usize
     ensures { result ≡ record_bytes Narrow * pressed.records }
 {
-    sheet::narrow::RECORD_BYTES * base::wide(pressed.records)
+    sheet::narrow::RECORD_BYTES * usize::from(pressed.records)
 }

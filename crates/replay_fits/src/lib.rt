@@ -15,7 +15,7 @@ use tally::Tally;
 fn within(edition: Edition, t: Tally) -> bool
     ensures { result ≡ reached edition (tally_of t) }
 {
-    if base::wide(t.next) < edition.replay_records() {
+    if usize::from(t.next) < edition.replay_records() {
         if t.held <= t.next {
             return t.steps <= t.next;
         }

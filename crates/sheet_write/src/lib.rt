@@ -11,7 +11,7 @@ ghost use Rattle.sheet.specs.Denote.{fields_in, record_of};
 
 use clause::{Clause, Set};
 use sheet::edition::Edition;
-use sheet::{Fields, Record, RecordNo, limits};
+use sheet::{Fields, Kind, Record, RecordNo, limits};
 
 fn put_two_words(d: &mut [u8], at: usize, s: Set)
     requires { at + set_bytes Wide ≤ length d.old }
@@ -65,7 +65,7 @@ fn fields_for(r: Record) -> Fields
 {
     match r {
         Record::Given { line, clause } => Fields {
-            kind: 1,
+            kind: Kind::Given as u8,
             pivot: 0,
             left: 0,
             right: 0,
@@ -78,7 +78,7 @@ fn fields_for(r: Record) -> Fields
             right,
             clause,
         } => Fields {
-            kind: 2,
+            kind: Kind::Step as u8,
             pivot,
             left: left.0,
             right: right.0,
@@ -86,7 +86,7 @@ fn fields_for(r: Record) -> Fields
             clause,
         },
         Record::Drop(node) => Fields {
-            kind: 3,
+            kind: Kind::Drop as u8,
             pivot: 0,
             left: node.0,
             right: 0,

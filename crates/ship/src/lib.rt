@@ -37,7 +37,7 @@ pub fn press_and_replay(
         PressAnswer::Refused(why, k) => Shipment::Refused(why, k),
         PressAnswer::Accepted(pressed) => {
             let edition = plan.edition;
-            let end = edition.bytes_of(base::wide(pressed.records));
+            let end = edition.bytes_of(usize::from(pressed.records));
             let replayed = replay::own::replay_in(edition, &out[..end], rules, slots);
             Shipment::Tried(pressed, replayed)
         }
