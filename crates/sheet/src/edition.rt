@@ -29,6 +29,8 @@ impl TryFrom<u32> for Edition {
     }
 }
 
+// The numbers of the two editions stand in two modules of the same names, and not in two values of one struct: lengths of arrays ask for constants, and each
+// method has an equation of its own.
 impl Edition {
     pub fn variables(self) -> u8
         ensures { result ≡ variables self }

@@ -11,6 +11,7 @@ use sheet::{LineNo, NodeNo, Reason, limits};
 use sheet_read::lines;
 
 // 4: rule table isn't a multiple of a line's bytes, or over 1,024 lines.
+#[tactic(auto, unfolding(sheet::specs::Checks::check_table, sheet::specs::Reasons::unless))]
 pub fn check_table(edition: Edition, rules: usize) -> Result<(), Reason>
     ensures { result ≡ check_table edition rules }
 {
@@ -22,6 +23,7 @@ pub fn check_table(edition: Edition, rules: usize) -> Result<(), Reason>
 }
 
 // 1 to 4, of the lengths alone, with the most records that the caller takes.
+#[tactic(auto, unfolding(sheet::specs::Checks::check_lengths, sheet::specs::Reasons::unless))]
 pub fn check_lengths(
     edition: Edition,
     most: usize,
@@ -44,6 +46,7 @@ pub fn check_lengths(
 }
 
 // 9: named node isn't earlier.
+#[tactic(auto, unfolding(sheet::specs::Checks::check_earlier, sheet::specs::Reasons::unless))]
 pub fn check_earlier(next: NodeNo, n: NodeNo) -> Result<(), Reason>
     ensures { result ≡ check_earlier next.0 n.0 }
 {
@@ -54,6 +57,7 @@ pub fn check_earlier(next: NodeNo, n: NodeNo) -> Result<(), Reason>
 }
 
 // 12: written clause lacks a literal of the result. 18: it lacks none but has at least one too many.
+#[tactic(auto, unfolding(sheet::specs::Checks::check_result, sheet::specs::Reasons::unless))]
 fn check_result(c: Clause, res: Clause) -> Result<(), Reason>
     ensures { result ≡ check_result (literals_of c) (literals_of res) }
 {
@@ -67,6 +71,7 @@ fn check_result(c: Clause, res: Clause) -> Result<(), Reason>
 }
 
 // 11: +p missing on the left or -p on the right.
+#[tactic(auto, unfolding(sheet::specs::Checks::check_step, sheet::specs::Reasons::unless, clause::specs::Clauses::holds))]
 pub fn check_step(p: u8, l: Clause, r: Clause, c: Clause) -> Result<(), Reason>
     ensures { result ≡ check_step p (literals_of l) (literals_of r) (literals_of c) }
 {
@@ -77,6 +82,7 @@ pub fn check_step(p: u8, l: Clause, r: Clause, c: Clause) -> Result<(), Reason>
 }
 
 // 17: given clause holds a variable both ways.
+#[tactic(auto, unfolding(sheet::specs::Checks::check_one_way, sheet::specs::Reasons::unless))]
 fn check_one_way(c: Clause) -> Result<(), Reason>
     ensures { result ≡ check_one_way (literals_of c) }
 {
@@ -87,6 +93,7 @@ fn check_one_way(c: Clause) -> Result<(), Reason>
 }
 
 // 13: rule line beyond the table. 14: given clause differs from its rule line.
+#[tactic(auto, unfolding(sheet::specs::Checks::check_given, sheet::specs::Reasons::unless))]
 pub fn check_given(edition: Edition, rules: &[u8], line: LineNo, c: Clause) -> Result<(), Reason>
     ensures { result ≡ check_given edition rules.now line.0 (literals_of c) }
 {

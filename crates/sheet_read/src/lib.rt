@@ -13,6 +13,7 @@ pub mod lines;
 pub mod sets;
 
 // Two sets, one after the other, as in a rule line.
+#[tactic(auto, unfolding(sheet::specs::Fields::clause_at))]
 pub fn clause_at(edition: Edition, b: &[u8], at: usize) -> Clause
     requires { at + line_bytes edition ≤ length b.now }
     ensures { literals_of result ≡ clause_at edition b.now at }

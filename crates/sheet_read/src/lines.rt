@@ -7,12 +7,14 @@ use clause::Clause;
 use sheet::LineNo;
 use sheet::edition::Edition;
 
+#[tactic(auto, unfolding(sheet::specs::Fields::rule_lines))]
 pub fn line_count(edition: Edition, rules: &[u8]) -> usize
     ensures { result ≡ rule_lines edition rules.now }
 {
     edition.lines_in(rules.len())
 }
 
+#[tactic(auto, unfolding(sheet::specs::Fields::rule_lines, sheet::specs::Fields::rule_line))]
 pub fn line_at(edition: Edition, rules: &[u8], line: LineNo) -> Clause
     requires { line.0 < rule_lines edition rules.now }
     ensures { literals_of result ≡ rule_line edition rules.now line.0 }

@@ -60,6 +60,7 @@ fn put_fields(edition: Edition, d: &mut [u8], at: usize, f: Fields)
     put_clause(edition, d, at + limits::POSITIVE_AT, f.clause);
 }
 
+#[tactic(auto, unfolding(sheet::specs::Fields::fields_for, sheet::specs::Denote::record_of))]
 fn fields_for(r: Record) -> Fields
     ensures { fields_in result ≡ fields_for (record_of r) }
 {
@@ -97,6 +98,7 @@ fn fields_for(r: Record) -> Fields
 }
 
 // Record r as record k of d; the other bytes of d are untouched.
+#[tactic(auto, unfolding(sheet::specs::Fields::record_bytes_of))]
 pub fn put_record(edition: Edition, d: &mut [u8], k: RecordNo, r: Record)
     requires { (k.0 ≤ most_records) × (record_bytes edition * k.0 + record_bytes edition ≤ length d.old) }
     ensures { d.new ≡ put d.old (record_bytes edition * k.0) (record_bytes_of edition (record_of r)) }

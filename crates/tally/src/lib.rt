@@ -2,16 +2,15 @@
 // what it writes with the same one.
 #![tactic(auto)]
 
-ghost use Rattle.std.specs.Prelude.{◌≡◌, ◌<◌, ◌≤◌};
-ghost use Rattle.sheet.specs.Editions.{most_records};
+ghost use Rattle.std.specs.Prelude.{◌≡◌, ◌≤◌};
 ghost use Rattle.sheet.specs.Denote.{record_of};
 ghost use Rattle.tally.specs.Tally.{nothing, with_node, without_node, counted};
-ghost use Rattle.tally.specs.Said.{tally_of};
+ghost use Rattle.tally.specs.Said.{tally_of, Countable};
 
 use sheet::Record;
 
 // The next node's number, the nodes held, the most held so far, the resolution records taken.
-#[derive(Clone, Copy)]
+#[derive(Clone, Copy, PartialEq, Eq)]
 pub struct Tally {
     pub next: u16,
     pub held: u16,
@@ -32,7 +31,8 @@ pub fn nothing() -> Tally
 
 // The tally after a node, which is a step or (0) is none.
 fn with_node(t: Tally, steps: u16) -> Tally
-    requires { (t.next < most_records) × (t.held ≤ t.next) × (t.steps ≤ t.next) × (steps ≤ 1) }
+    requires countable { Countable t }
+    requires one_or_none { steps ≤ 1 }
     ensures { tally_of result ≡ with_node steps (tally_of t) }
 {
     let held = t.held + 1;
@@ -48,16 +48,15 @@ fn without_node(t: Tally) -> Tally
     ensures { tally_of result ≡ without_node (tally_of t) }
 {
     Tally {
-        next: t.next,
         held: t.held.saturating_sub(1),
-        peak: t.peak,
-        steps: t.steps,
+        ..t
     }
 }
 
 // The tally after one record more. Its numbers cannot run over in a run of records that a replay takes.
+#[tactic(auto, unfolding(crate::specs::Tally::counted, sheet::specs::Denote::record_of, sheet::specs::Counts::step_of))]
 pub fn counted(t: Tally, r: Record) -> Tally
-    requires { (t.next < most_records) × (t.held ≤ t.next) × (t.steps ≤ t.next) }
+    requires { Countable t }
     ensures { tally_of result ≡ counted (tally_of t) (record_of r) }
 {
     match r {
