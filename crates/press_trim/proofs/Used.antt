@@ -11,6 +11,7 @@ use borrow.Author.Tests.{eq-eqb, ne_eqb}
 use Rattle.base.proofs.Lists.{get_d-blank, cond_both, set-each}
 use Rattle.sheet.specs.Editions.{capacity}
 use Rattle.press_spec.specs.Links.{Link, leaf, join, link_at}
+use Rattle.press_nodes.specs.declared.link.Link.{Link as CodeLink}
 use Rattle.press_nodes.specs.Tables.{links_in, Links}
 use Rattle.press_spec.specs.Trim.{trimmed, naming, uses_in, uses}
 use Rattle.press_nodes.proofs.Tables.{links-length}
@@ -95,7 +96,7 @@ few-uses (x ∷ s) (k ∷ kept) m =
     cond_both (λ t. uses t m ≤ 2 * suc (length s)) (eqb k 0) (trimmed s kept) (x ∷ trimmed s kept)
     (omega (arith, few-uses s kept m)) (omega (arith, few-uses s kept m, two-places m x))
 
-module _ (h kept : List ℕ) (tables : Links h) where
+module _ (h : List CodeLink) (kept : List ℕ) (tables : Links h) where
   abbrev s : List Link
   s = links_in h
 

@@ -3,12 +3,12 @@ ghost use Rattle.std.specs.Prelude.{◌≡◌, ◌<◌, length};
 ghost use Rattle.press_nodes.specs.Tables.{links_in, Links};
 ghost use Rattle.press_spec.specs.Trim.{trim_turn, trim};
 
+use press_nodes::link;
 use press_nodes::link::Link;
-use press_nodes::{clear, link};
 use sheet::NodeNo;
 
 // The turn at node n: a node that is kept keeps its parents.
-fn trim_turn(links: &[u64], n: NodeNo, kept: &mut [u8])
+fn trim_turn(links: &[Link], n: NodeNo, kept: &mut [u8])
     requires links { Links links.now }
     requires kept_len { (length kept.old ≡ length links.now) × (n.0 < length links.now) }
     ensures { kept.new ≡ trim_turn (links_in links.now) n.0 kept.old }
@@ -27,17 +27,15 @@ fn trim_turn(links: &[u64], n: NodeNo, kept: &mut [u8])
 }
 
 // 1 for each node that `from` reaches, 0 for each other.
-pub fn trim(links: &[u64], from: NodeNo, kept: &mut [u8])
+pub fn trim(links: &[Link], from: NodeNo, kept: &mut [u8])
     requires links { Links links.now }
     requires kept_len { (length kept.old ≡ length links.now) × (from.0 < length links.now) }
     ensures { kept.new ≡ trim (links_in links.now) from.0 }
 {
-    clear::clear_marks(kept);
+    kept.fill(0);
     let start = from.index();
     kept[start] = 1;
-    let mut i = from.0 + 1;
-    while 0 < i {
-        i -= 1;
+    for i in (0..from.0 + 1).rev() {
         trim_turn(links, NodeNo(i), kept);
     }
 }

@@ -6,8 +6,8 @@ ghost use Rattle.press_nodes.specs.Tables.{links_in, Links};
 ghost use Rattle.press_spec.specs.Trim.{trim, trimmed, naming, uses, uses_from};
 
 use crate::trim;
+use press_nodes::link;
 use press_nodes::link::Link;
-use press_nodes::{clear, link};
 use sheet::NodeNo;
 use sheet::limits::CAPACITY;
 
@@ -24,7 +24,7 @@ fn add_uses(counts: &mut [u16], l: NodeNo, r: NodeNo)
 }
 
 // The turn at node n: the places in it, if it is kept.
-fn use_turn(links: &[u64], kept: &[u8], n: NodeNo, counts: &mut [u16])
+fn use_turn(links: &[Link], kept: &[u8], n: NodeNo, counts: &mut [u16])
     requires links { Links links.now }
     requires kept_len { (length kept.now ≡ length links.now) × (length counts.old ≡ length links.now) × (n.0 < length links.now) }
     requires by_index { (m : ℕ) → get_or counts.old m 0 ≤ 2 * capacity }
@@ -40,21 +40,19 @@ fn use_turn(links: &[u64], kept: &[u8], n: NodeNo, counts: &mut [u16])
     add_uses(counts, left, right);
 }
 
-fn count_uses(links: &[u64], kept: &[u8], counts: &mut [u16])
+fn count_uses(links: &[Link], kept: &[u8], counts: &mut [u16])
     requires links { Links links.now }
     requires kept_len { (length kept.now ≡ length links.now) × (length counts.old ≡ length links.now) }
     ensures { (m : ℕ) → get_or counts.new m 0 ≡ uses (trimmed (links_in links.now) kept.now) m }
 {
-    clear::clear_numbers(counts);
-    let mut i = links.len() as u16;
-    while 0 < i {
-        i -= 1;
+    counts.fill(0);
+    for i in (0..links.len() as u16).rev() {
         use_turn(links, kept, NodeNo(i), counts);
     }
 }
 
 // The uses of each node in what `from` reaches, and in `kept` 1 for each node that it reaches, 0 for each other.
-pub fn uses_with(links: &[u64], from: NodeNo, kept: &mut [u8], counts: &mut [u16])
+pub fn uses_with(links: &[Link], from: NodeNo, kept: &mut [u8], counts: &mut [u16])
     requires links { Links links.now }
     requires kept_len { (length kept.old ≡ length links.now) × (length counts.old ≡ length links.now) × (from.0 < length links.now) }
     ensures uses { (m : ℕ) → get_or counts.new m 0 ≡ uses_from (links_in links.now) from.0 m }
@@ -65,7 +63,7 @@ pub fn uses_with(links: &[u64], from: NodeNo, kept: &mut [u8], counts: &mut [u16
 }
 
 // The uses of each node in what `from` reaches.
-pub fn uses_from(links: &[u64], from: NodeNo, counts: &mut [u16])
+pub fn uses_from(links: &[Link], from: NodeNo, counts: &mut [u16])
     requires links { Links links.now }
     requires counts_len { (length counts.old ≡ length links.now) × (from.0 < length links.now) }
     ensures { (m : ℕ) → get_or counts.new m 0 ≡ uses_from (links_in links.now) from.0 m }

@@ -7,4 +7,4 @@ pub loop-i-preserved : goal.loop-i-preserved
 loop-i-preserved c = (search rules, search rules, search fall-next)
 
 pub returns : goal.returns
-returns c = search trim-done
+returns c = let cleared = c.fill.ensures.after (λ y q. q) in search trim-done

@@ -1,4 +1,4 @@
-use Prim.Native.Nat.{◌≤◌}
+use Prim.Native.Nat.{suc, ◌≤◌}
 use mathlib.Core.Path.{◌≡◌}
 use lib.ListN.{length}
 use Rattle.base.specs.Folds.{fall}
@@ -8,7 +8,4 @@ use Rattle.press_trim.proofs.trim.trim.Given as goal
 
 abbrev pub invariant-loop-i : goal.invariant-loop-i
 invariant-loop-i l =
-    (l.i ≤ length l.links) × (length l.kept ≡ length l.links) × (fall (trim_turn (links_in l.links)) l.i l.kept ≡ fall (trim_turn (links_in l.links)) l.initial.i l.initial.kept)
-
-abbrev pub decreases-loop-i : goal.decreases-loop-i
-decreases-loop-i l = l.i
+    (l.i ≤ length l.links) × (length l.kept ≡ length l.links) × (fall (trim_turn (links_in l.links)) l.i l.kept ≡ fall (trim_turn (links_in l.links)) (suc l.fn.from.0) l.initial.kept)

@@ -11,18 +11,15 @@ pub returns-in_default : goal.returns-in_default
 returns-in_default c = let e = found-leaf _ _ _ c.link_at.ensures c.in_default.is in search trim-leaf
 
 pub bounds-kept-l : goal.bounds-kept-l
-bounds-kept-l c = let a = c in
-    let s = a in
-    let o = found-sound _ _ _ _ _ _ s.requires.links s.requires.kept_len.1 a.link_at.ensures a.in-Join.is in
+bounds-kept-l c =
+    let o = found-sound _ _ _ _ _ _ c.requires.links c.requires.kept_len.1 c.link_at.ensures c.in-Join.is in
     omega arith
 
 pub bounds-kept-r : goal.bounds-kept-r
-bounds-kept-r c = let a = c in
-    let s = a in
-    let o = found-sound _ _ _ _ _ _ s.requires.links s.requires.kept_len.1 a.link_at.ensures a.in-Join.is in
+bounds-kept-r c =
+    let o = found-sound _ _ _ _ _ _ c.requires.links c.requires.kept_len.1 c.link_at.ensures c.in-Join.is in
     simp length-set (omega arith)
 
 pub returns : goal.returns
-returns c = let a = c in
-    let e = found-join _ _ _ _ _ a.link_at.ensures a.in-Join.is in
+returns c = let e = found-join _ _ _ _ _ c.link_at.ensures c.in-Join.is in
     search trim-join

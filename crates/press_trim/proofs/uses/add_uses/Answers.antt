@@ -3,7 +3,6 @@ use Rattle.press_trim.proofs.Used.{both-added}
 use Rattle.press_trim.proofs.uses.add_uses.Goals as goal
 
 pub returns : goal.returns
-returns c = let s = c in
-    let i = c.index-i in
+returns c = let i = c.index-i in
     let j = c.index-j in
-    λ m. both-added s.args.counts.now i.result j.result _ _ m i.ensures j.ensures (omega arith) (omega arith)
+    λ m. both-added c.args.counts.now i.result j.result _ _ m i.ensures j.ensures (omega arith) (omega arith)

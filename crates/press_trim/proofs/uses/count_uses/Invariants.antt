@@ -8,6 +8,3 @@ use Rattle.press_trim.proofs.uses.count_uses.Given as goal
 abbrev pub invariant-loop-i : goal.invariant-loop-i
 invariant-loop-i l =
     (l.i ≤ length l.links) × (length l.counts ≡ length l.links) × ((m : ℕ) → get_or l.counts m 0 ≡ uses_after (links_in l.links) l.kept l.i m)
-
-abbrev pub decreases-loop-i : goal.decreases-loop-i
-decreases-loop-i l = l.i
