@@ -4,11 +4,11 @@ ghost use Rattle.clause.specs.Denote.{literals_of};
 ghost use Rattle.press_spec.specs.Recycle.{unreached, reset, intersect, fit_of};
 ghost use Rattle.press_reach.specs.Reaches.{reach_in};
 
-use crate::Reach;
 use clause::Clause;
 use press_spec::Recycling;
 
 // "A node with two or more uses has S empty. Otherwise S comes from its only use."
+#[tactic(auto, unfolding(press_spec::specs::Recycle::reset))]
 fn reset(uses: u16, s: Clause) -> Clause
     ensures { literals_of result ≡ reset (λ m. uses) 0 unreached (literals_of s) }
 {
@@ -19,17 +19,19 @@ fn reset(uses: u16, s: Clause) -> Clause
 }
 
 // "A node's S is the intersection over all its uncut edges from reached steps of what each would hand it" (003).
-fn intersect(before: Reach, s: Clause) -> Clause
+#[tactic(auto, unfolding(press_spec::specs::Recycle::intersect, crate::specs::Reaches::reach_in))]
+fn intersect(before: Option<Clause>, s: Clause) -> Clause
     ensures { literals_of result ≡ intersect 0 (reach_in before) (literals_of s) }
 {
     match before {
-        Reach::Unreached => s,
-        Reach::Reached(had) => clause::common(had, s),
+        None => s,
+        Some(had) => clause::common(had, s),
     }
 }
 
 // The set of a node that has so many uses and is handed s, as the plan chooses.
-pub fn fitted(how: Recycling, uses: u16, before: Reach, s: Clause) -> Clause
+#[tactic(auto, unfolding(press_spec::specs::Recycle::fit_of, press_spec::specs::Recycle::reset))]
+pub fn fitted(how: Recycling, uses: u16, before: Option<Clause>, s: Clause) -> Clause
     ensures { literals_of result ≡ fit_of how (λ m. uses) 0 (reach_in before) (literals_of s) }
 {
     match how {

@@ -1,19 +1,19 @@
 // Literals, each a value of its own.
 ghost use Rattle.std.specs.Prelude.{◌≡◌};
-ghost use Rattle.clause.specs.Clauses.{same_literal, none, holds, adding, lacking, alike};
+ghost use Rattle.clause.specs.Clauses.{none, holds, adding, lacking, alike};
 ghost use Rattle.clause.specs.Denote.{literals_of};
 ghost use Rattle.press_spec.specs.Lower.{opposite};
-ghost use Rattle.press_lowered.specs.Literals.{literal_in, Narrow};
+ghost use Rattle.press_reach.specs.Literals.{literal_in, Narrow};
 
 use clause::Clause;
-use press_reach::edges;
 
-#[derive(Clone, Copy)]
+#[derive(Clone, Copy, PartialEq, Eq)]
 pub enum Literal {
     Plus(u8),
     Minus(u8),
 }
 
+#[tactic(auto, unfolding(crate::specs::Literals::literal_in, press_spec::specs::Lower::opposite))]
 pub fn opposite(l: Literal) -> Literal
     ensures { literal_in result ≡ opposite (literal_in l) }
 {
@@ -23,22 +23,8 @@ pub fn opposite(l: Literal) -> Literal
     }
 }
 
-pub fn same(l: Literal, m: Literal) -> bool
-    ensures { result ≡ same_literal (literal_in l) (literal_in m) }
-{
-    match l {
-        Literal::Plus(u) => match m {
-            Literal::Plus(v) => u == v,
-            Literal::Minus(_) => false,
-        },
-        Literal::Minus(u) => match m {
-            Literal::Plus(_) => false,
-            Literal::Minus(v) => u == v,
-        },
-    }
-}
-
 // Whether c holds l.
+#[tactic(auto, unfolding(crate::specs::Literals::literal_in, clause::specs::Clauses::holds))]
 pub fn holds(l: Literal, c: Clause) -> bool
     ensures { result ≡ holds (literal_in l) (literals_of c) }
 {
@@ -49,30 +35,36 @@ pub fn holds(l: Literal, c: Clause) -> bool
 }
 
 // c with l.
+#[tactic(auto, unfolding(crate::specs::Literals::literal_in, clause::specs::Clauses::adding, clause::specs::Sets::with_below))]
 pub fn adding(l: Literal, c: Clause) -> Clause
     requires { Narrow (literal_in l) }
     ensures { literals_of result ≡ adding (literal_in l) (literals_of c) }
 {
     match l {
-        Literal::Plus(v) => edges::with_plus(c, v),
-        Literal::Minus(v) => edges::with_minus(c, v),
+        Literal::Plus(v) => Clause {
+            positive: clause::with(c.positive, v),
+            ..c
+        },
+        Literal::Minus(v) => Clause {
+            negative: clause::with(c.negative, v),
+            ..c
+        },
     }
 }
 
 // c without l.
+#[tactic(auto, unfolding(crate::specs::Literals::literal_in, clause::specs::Clauses::lacking))]
 pub fn lacking(l: Literal, c: Clause) -> Clause
     ensures { literals_of result ≡ lacking (literal_in l) (literals_of c) }
 {
-    let positive = c.positive;
-    let negative = c.negative;
     match l {
         Literal::Plus(v) => Clause {
-            positive: clause::without(positive, v),
-            negative,
+            positive: clause::without(c.positive, v),
+            ..c
         },
         Literal::Minus(v) => Clause {
-            positive,
-            negative: clause::without(negative, v),
+            negative: clause::without(c.negative, v),
+            ..c
         },
     }
 }

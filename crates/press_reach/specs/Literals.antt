@@ -2,8 +2,8 @@
 use Rattle.std.specs.Prelude.{◌<◌}
 use Rattle.clause.specs.Clauses.{Literal, plus, minus}
 use Rattle.clause.specs.Denote.{width}
-use Rattle.press_lowered.specs.declared.literal.Literal.{Literal as CodeLiteral}
-use Rattle.press_lowered.specs.declared.literal.Literal.TheVariants.{Plus, Minus}
+use Rattle.press_reach.specs.declared.literal.Literal.{Literal as CodeLiteral}
+use Rattle.press_reach.specs.declared.literal.Literal.TheVariants.{Plus, Minus}
 
 unfoldable pub literal_in : CodeLiteral → Literal
 literal_in (Plus v) = plus v
