@@ -2,28 +2,30 @@
 // parent on an uncut edge of a reached step." The sink's S is its clause.
 #![tactic(auto)]
 
-ghost use Rattle.std.specs.Prelude.{◌≡◌, ℕ, suc, ◌≤◌, ◌<◌, length, get_or, set};
+ghost use Rattle.std.specs.Prelude.{◌≡◌, ℕ, suc, ◌<◌, length, get_or, set, None};
 ghost use Rattle.clause.specs.Denote.{width, literals_of};
 ghost use Rattle.press_spec.specs.Links.{sink};
 ghost use Rattle.press_spec.specs.Recycle.{fit_of, hand, hand_on, recycle_turn, recycle};
 ghost use Rattle.press_spec.specs.Recycle as recycling;
-ghost use Rattle.press_nodes.specs.Tables.{links_in, clause_words, Links};
+ghost use Rattle.press_nodes.specs.Tables.{links_in, Links};
 ghost use Rattle.press_nodes.specs.Fates.{cut_in, fates_in};
+ghost use Rattle.press_nodes.specs.declared.fate.Fate.TheVariants.{Lost, Kept};
 ghost use Rattle.press_reach.specs.Reaches.{reaches_in};
 ghost use Rattle.press_recycle.specs.Passes.{count_in, Fated};
 
 use clause::Clause;
-use press_nodes::fate::Cut;
+use press_nodes::fate::{Fate, Side};
 use press_nodes::link::Link;
 use press_nodes::{fate, link};
-use press_reach::{Reach, edges, fit};
+use press_reach::literal::Literal;
+use press_reach::{edges, fit, literal};
 use press_spec::Recycling;
 use sheet::NodeNo;
 
-fn hand(how: Recycling, uses: &[u16], n: NodeNo, s: Clause, fates: &mut [u8], sets: &mut [u64])
-    requires { (length fates.old ≡ length uses.now) × (length sets.old ≡ clause_words (length uses.now)) × (n.0 < length uses.now) }
+fn hand(how: Recycling, uses: &[u16], n: NodeNo, s: Clause, fates: &mut [Fate], sets: &mut [Clause])
+    requires { (length fates.old ≡ length uses.now) × (length sets.old ≡ length uses.now) × (n.0 < length uses.now) }
     ensures reaches { reaches_in fates.new sets.new ≡ hand (fit_of how (count_in uses.now)) n.0 (literals_of s) (reaches_in fates.old sets.old) }
-    ensures bytes { fates.new ≡ set fates.old n.0 1 }
+    ensures fates { fates.new ≡ set fates.old n.0 (Kept None) }
 {
     let i = n.index();
     let before = press_reach::reach_at(fates, sets, n);
@@ -33,35 +35,31 @@ fn hand(how: Recycling, uses: &[u16], n: NodeNo, s: Clause, fates: &mut [u8], se
 
 // "The left edge is cut and the right parent gets S; .. the right edge is cut and the left parent gets S; else left gets S with +p, right
 // gets S with -p."
+#[tactic(auto, unfolding(press_nodes::specs::Fates::cut_in, press_spec::specs::Recycle::hand_on, press_reach::specs::Literals::literal_in))]
 fn hand_on(
     how: Recycling,
     uses: &[u16],
-    cut: Cut,
+    cut: Option<Side>,
     p: u8,
     l: NodeNo,
     r: NodeNo,
     s: Clause,
-    fates: &mut [u8],
-    sets: &mut [u64],
+    fates: &mut [Fate],
+    sets: &mut [Clause],
 )
-    requires fates_len { (length fates.old ≡ length uses.now) × (length sets.old ≡ clause_words (length uses.now)) }
+    requires fates_len { (length fates.old ≡ length uses.now) × (length sets.old ≡ length uses.now) }
     requires p_lt_width { (p < width) × (l.0 < length uses.now) × (r.0 < length uses.now) }
     ensures reaches { reaches_in fates.new sets.new ≡ hand_on (fit_of how (count_in uses.now)) (cut_in cut) p l.0 r.0 (literals_of s) (reaches_in fates.old sets.old) }
-    ensures bytes { (m : ℕ) → l.0 < m → r.0 < m → get_or fates.new m 0 ≡ get_or fates.old m 0 }
+    ensures fates { (m : ℕ) → l.0 < m → r.0 < m → get_or fates.new m Lost ≡ get_or fates.old m Lost }
 {
     match cut {
-        Cut::Left => {
-            hand(how, uses, r, s, fates, sets);
-            return;
-        }
-        Cut::Right => {
-            hand(how, uses, l, s, fates, sets);
-            return;
-        }
-        Cut::None => {
-            hand(how, uses, l, edges::with_plus(s, p), fates, sets);
-            hand(how, uses, r, edges::with_minus(s, p), fates, sets);
-            return;
+        Some(Side::Left) => hand(how, uses, r, s, fates, sets),
+        Some(Side::Right) => hand(how, uses, l, s, fates, sets),
+        None => {
+            let plus = Literal::Plus(p);
+            let minus = Literal::Minus(p);
+            hand(how, uses, l, literal::adding(plus, s), fates, sets);
+            hand(how, uses, r, literal::adding(minus, s), fates, sets);
         }
     }
 }
@@ -69,25 +67,23 @@ fn hand_on(
 // The turn at node n, whose set is final: its fate is stored, and its parents are handed theirs.
 fn recycle_turn(
     how: Recycling,
-    links: &[u64],
+    links: &[Link],
     uses: &[u16],
     n: NodeNo,
-    fates: &mut [u8],
-    sets: &mut [u64],
+    fates: &mut [Fate],
+    sets: &mut [Clause],
 )
     requires links { Links links.now }
-    requires uses_len { (length uses.now ≡ length links.now) × (length fates.old ≡ length links.now) × (length sets.old ≡ clause_words (length links.now)) × (n.0 < length links.now) }
+    requires uses_len { (length uses.now ≡ length links.now) × (length fates.old ≡ length links.now) × (length sets.old ≡ length links.now) × (n.0 < length links.now) }
     requires fated_2 { Fated (links_in links.now) fates.old sets.old (suc n.0) }
     ensures reaches { reaches_in fates.new sets.new ≡ recycle_turn (fit_of how (count_in uses.now)) (links_in links.now) n.0 (reaches_in fates.old sets.old) }
     ensures fated { Fated (links_in links.now) fates.new sets.new n.0 }
 {
-    let handed = press_reach::reach_at(fates, sets, n);
-    let Reach::Reached(s) = handed else {
+    let Some(s) = press_reach::reach_at(fates, sets, n) else {
         return;
     };
-    let found = link::link_at(links, n);
-    let Link::Join { pivot, left, right } = found else {
-        fate::put_fate(fates, n, Cut::None);
+    let Link::Join { pivot, left, right } = link::link_at(links, n) else {
+        fate::put_fate(fates, n, None);
         return;
     };
     let cut = edges::cut_of(pivot, s);
@@ -98,22 +94,19 @@ fn recycle_turn(
 // What becomes of each node by the recycling `how`, where `own` is the sink's clause. The sets S stand in `sets`, and what it held before never matters.
 pub fn recycle(
     how: Recycling,
-    links: &[u64],
+    links: &[Link],
     own: Clause,
     uses: &[u16],
-    fates: &mut [u8],
-    sets: &mut [u64],
+    fates: &mut [Fate],
+    sets: &mut [Clause],
 )
     requires links { Links links.now }
-    requires uses_len { (length uses.now ≡ length links.now) × (length fates.old ≡ length links.now) × (length sets.old ≡ clause_words (length links.now)) × (0 < length links.now) }
+    requires uses_len { (length uses.now ≡ length links.now) × (length fates.old ≡ length links.now) × (length sets.old ≡ length links.now) × (0 < length links.now) }
     ensures { let t = links_in links.now in fates_in fates.new ≡ recycling.fates t (recycle (fit_of how (count_in uses.now)) (literals_of own) t (sink t)) }
 {
     let n = links.len() as u16;
-    let sink = n - 1;
-    press_reach::reach_only(fates, sets, NodeNo(sink), own);
-    let mut i = n;
-    while 0 < i {
-        i -= 1;
+    press_reach::reach_only(fates, sets, NodeNo(n - 1), own);
+    for i in (0..n).rev() {
         recycle_turn(how, links, uses, NodeNo(i), fates, sets);
     }
 }

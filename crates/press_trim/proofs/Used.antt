@@ -8,7 +8,7 @@ use lib.Dec.{eqb, eqb-zero-suc, eqb-suc-zero, eqb-suc-suc}
 use lib.ListN.{length, get_or, set, replicate, length-set}
 use lib.Seq.{drop-length}
 use borrow.Author.Tests.{eq-eqb, ne_eqb}
-use Rattle.base.proofs.Lists.{get_d-blank, cond_both, set-each}
+use Rattle.base.proofs.Lists.{get_d-blank, cond_both}
 use Rattle.sheet.specs.Editions.{capacity}
 use Rattle.press_spec.specs.Links.{Link, leaf, join, link_at}
 use Rattle.press_nodes.specs.declared.link.Link.{Link as CodeLink}
@@ -30,9 +30,6 @@ added (x ∷ t) (suc n) (suc m) h = rw (eqb-suc-suc m n) (added t n m (omega ari
 module _ (t : List ℕ) (l : ℕ) where
   abbrev more : List ℕ
   more = set t l (get_or t l 0 + 1)
-
-  pub more-few : ((m : ℕ) → get_or t m 0 ≤ 2 * capacity) → (m : ℕ) → get_or more m 0 ≤ 2 * capacity + 1
-  more-few f = set-each t l (get_or t l 0 + 1) (2 * capacity + 1) (λ m. omega (arith, f m)) (omega (arith, f l))
 
   pub both-added : (r i j m : ℕ) → l ≡ i → r ≡ j → l < length t → r < length t
       → get_or (set more r (get_or more r 0 + 1)) m 0 ≡ get_or t m 0 + (naming m i + naming m j)

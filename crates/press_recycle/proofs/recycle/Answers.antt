@@ -1,7 +1,6 @@
 use mathlib.Core.Path.{refl}
 use native.Mathlib.Omega.{arith}
 use Rattle.base.proofs.Folds.{fall-next}
-use Rattle.press_spec.specs.Recycle.{recycle_turn}
 use Rattle.press_recycle.proofs.Recycles.{fated-start, fates-done}
 use Rattle.press_recycle.proofs.recycle.Goals as goal
 
