@@ -1,10 +1,10 @@
 -- The first node of a row, word by word; and that of the highest row that has one is the highest of all.
-use Prim.Native.Nat.{ℕ, ◌+◌, ◌-◌, ◌*◌, ◌/◌, ◌%◌, ◌≤◌, ◌<◌}
+use Prim.Native.Nat.{ℕ, zero, suc, ◌+◌, ◌-◌, ◌*◌, ◌/◌, ◌%◌, ◌≤◌, ◌<◌}
 use mathlib.Core.Path.{◌≡◌, refl, sym, ap, ◌∙◌}
 use mathlib.Core.Bool.{true, false}
 use mathlib.Core.List.{List}
 use native.Mathlib.Omega.{arith}
-use native.Mathlib.Decide.{dec_le}
+use native.Mathlib.Decide.{ℕ_discrete, dec_le}
 use lib.ListN.{get_or, replicate}
 use Rattle.base.proofs.Lists.{cond_both, get_d-blank}
 use Rattle.clause.specs.Sets.{has}
@@ -39,77 +39,65 @@ module _ (rows : List ℕ) (g w bits : ℕ) (inside : w < row_words) (e : bits �
       here = λ h. in-word (w * word + b) b (omega (arith, f.low)) (omega (arith, f.low)) ∙ f.here;
     }
 
-pub row-empty : (rows : List ℕ) (g w n : ℕ) → n ≡ capacity → row_words ≤ w → ((m : ℕ) → m < w * word → in_row rows g m ≡ false) → FirstIn rows g n
-row-empty rows g w n e h f = record { none = λ m l. f m (omega arith); here = λ l. absurd (omega arith) }
+pub row-empty : (rows : List ℕ) (g w : ℕ) → row_words ≤ w → ((m : ℕ) → m < w * word → in_row rows g m ≡ false) → FirstIn rows g capacity
+row-empty rows g w h f = record { none = λ m l. f m (omega arith); here = λ l. absurd (omega arith) }
 
 -- ---- the highest
 
 module _ (rows : List ℕ) where
-  three-most : (m : ℕ) → scores_in rows m ≤ 3
-  unfolding scores_in
-  three-most m =
-      cond_both (λ k. k ≤ 3) (in_row rows 3 m) 3 _ (omega arith)
-      (cond_both (λ k. k ≤ 3) (in_row rows 2 m) 2 _ (omega arith) (cond_both (λ k. k ≤ 3) (in_row rows 1 m) 1 0 (omega arith) (omega arith)))
+  -- no row above g has m
+  abbrev Above : ℕ → ℕ → Type 0
+  Above g m = (h : ℕ) → g < h → h ≤ 3 → in_row rows h m ≡ false
 
-  is-three : (m : ℕ) → in_row rows 3 m ≡ true → scores_in rows m ≡ 3
-  unfolding scores_in
-  is-three m a = rw a
-
-  module _ (m : ℕ) (a : in_row rows 3 m ≡ false) where
-    two-most : scores_in rows m ≤ 2
+  module _ (m : ℕ) where
+    is_none : Above 0 m → scores_in rows m ≡ 0
     unfolding scores_in
-    two-most = rw a (cond_both (λ k. k ≤ 2) (in_row rows 2 m) 2 _ (omega arith) (cond_both (λ k. k ≤ 2) (in_row rows 1 m) 1 0 (omega arith) (omega arith)))
+    is_none a = rw (a 3 (omega arith) (omega arith), a 2 (omega arith) (omega arith), a 1 (omega arith) (omega arith))
 
-    is-two : in_row rows 2 m ≡ true → scores_in rows m ≡ 2
+    is-score : (g : ℕ) → 1 ≤ g → g ≤ 3 → Above g m → in_row rows g m ≡ true → scores_in rows m ≡ g
     unfolding scores_in
-    is-two b = rw (a, b)
+    is-score zero h k a e = absurd (omega arith)
+    is-score (suc zero) h k a e = rw (a 3 (omega arith) (omega arith), a 2 (omega arith) (omega arith), e)
+    is-score (suc (suc zero)) h k a e = rw (a 3 (omega arith) (omega arith), e)
+    is-score (suc (suc (suc zero))) h k a e = rw e
+    is-score (suc (suc (suc (suc g)))) h k a e = absurd (omega arith)
 
-    module _ (b : in_row rows 2 m ≡ false) where
-      one-most : scores_in rows m ≤ 1
-      unfolding scores_in
-      one-most = rw (a, b) (cond_both (λ k. k ≤ 1) (in_row rows 1 m) 1 0 (omega arith) (omega arith))
+    no-more : (g : ℕ) → Above g m → scores_in rows m ≤ g
+    unfolding scores_in
+    no-more zero a = omega (arith, is_none a)
+    no-more (suc zero) a = rw (a 3 (omega arith) (omega arith), a 2 (omega arith) (omega arith)) (cond_both (λ k. k ≤ 1) (in_row rows 1 m) 1 0 (omega arith) (omega arith))
+    no-more (suc (suc zero)) a =
+        rw (a 3 (omega arith) (omega arith))
+        (cond_both (λ k. k ≤ 2) (in_row rows 2 m) 2 _ (omega arith) (cond_both (λ k. k ≤ 2) (in_row rows 1 m) 1 0 (omega arith) (omega arith)))
+    no-more (suc (suc (suc g))) a =
+        cond_both (λ k. k ≤ suc (suc (suc g))) (in_row rows 3 m) 3 _ (omega arith)
+        (cond_both (λ k. k ≤ suc (suc (suc g))) (in_row rows 2 m) 2 _ (omega arith) (cond_both (λ k. k ≤ suc (suc (suc g))) (in_row rows 1 m) 1 0 (omega arith) (omega arith)))
 
-      is_one : in_row rows 1 m ≡ true → scores_in rows m ≡ 1
-      unfolding scores_in
-      is_one c = rw (a, b, c)
+    -- nor does row g have it
+    pub above-next : (g : ℕ) → Above g m → in_row rows g m ≡ false → (h : ℕ) → g ≤ h → h ≤ 3 → in_row rows h m ≡ false
+    above-next g a e h k l = elim (ℕ_discrete h g) [ yes q ↦ rw q e | no q ↦ a h (omega arith) l ]
 
-      is_none : in_row rows 1 m ≡ false → scores_in rows m ≡ 0
-      unfolding scores_in
-      is_none c = rw (a, b, c)
-
-  -- the first of those that score g, where none scores more
-  top : (n g : ℕ) → n < capacity → scores_in rows n ≡ g → ((m : ℕ) → scores_in rows m ≤ g) → ((m : ℕ) → m < n → scores_in rows m < g)
-      → (n ≡ highest (scores_in rows) capacity) × (g ≡ scores_in rows n)
-  top n g h e most first = (highest-is (scores_in rows) capacity n h (λ m l. omega (arith, most m)) (λ m l. omega (arith, first m l)), sym e)
-
-  -- a row that has no first node
-  empty : (g n : ℕ) → FirstIn rows g n → capacity ≤ n → (m : ℕ) → in_row rows g m ≡ false
-  empty g n f h m = elim (dec_le capacity m) [
+  -- a row that has no node
+  pub row-none : (g : ℕ) → FirstIn rows g capacity → (m : ℕ) → in_row rows g m ≡ false
+  row-none g f m = elim (dec_le capacity m) [
     | yes l ↦ past_row rows g m l
     | no l ↦ f.none m (omega arith)
   ]
 
-  module _ (a : ℕ) (f : FirstIn rows 3 a) where
-    pub best-three : a < capacity → (a ≡ highest (scores_in rows) capacity) × (3 ≡ scores_in rows a)
-    best-three h = top a 3 h (is-three a (f.here h)) three-most (λ m l. omega (arith, two-most m (f.none m l)))
+  -- the first node of row g, where no row above has any
+  pub row-highest : (g n : ℕ) → 1 ≤ g → g ≤ 3 → n < capacity → FirstIn rows g n → ((m : ℕ) → Above g m) → (n ≡ highest (scores_in rows) capacity) × (g ≡ scores_in rows n) × (0 < g)
+  row-highest (suc g) n h k l f a =
+      let e : scores_in rows n ≡ suc g = is-score n (suc g) h k (a n) (f.here l) in (
+        highest-is (scores_in rows) capacity n l
+            (λ m i. omega (arith, no-more m (suc g) (a m)))
+            (λ m i. omega (arith, no-more m g (λ o p q. above-next m (suc g) (a m) (f.none m i) o (omega arith) q))),
+        sym e,
+        omega arith,
+      )
+  row-highest zero n h k l f a = absurd (omega arith)
 
-    module _ (x : capacity ≤ a) (b : ℕ) (g : FirstIn rows 2 b) where
-      pub best-two : b < capacity → (b ≡ highest (scores_in rows) capacity) × (2 ≡ scores_in rows b)
-      best-two h =
-          let none = empty 3 a f x in
-          top b 2 h (is-two b (none b) (g.here h)) (λ m. two-most m (none m)) (λ m l. omega (arith, one-most m (none m) (g.none m l)))
-
-      module _ (y : capacity ≤ b) (c : ℕ) (h : FirstIn rows 1 c) where
-        pub best-one : c < capacity → (c ≡ highest (scores_in rows) capacity) × (1 ≡ scores_in rows c)
-        best-one l =
-            let none = empty 3 a f x in
-            let nor = empty 2 b g y in
-            top c 1 l (is_one c (none c) (nor c) (h.here l)) (λ m. one-most m (none m) (nor m)) (λ m k. omega (arith, is_none m (none m) (nor m) (h.none m k)))
-
-        pub best_none : capacity ≤ c → (0 ≡ highest (scores_in rows) capacity) × (0 ≡ scores_in rows 0)
-        best_none z =
-            let all : (m : ℕ) → scores_in rows m ≡ 0 = λ m. is_none m (empty 3 a f x m) (empty 2 b g y m) (empty 1 c h z m) in
-            top 0 0 (omega arith) (all 0) (λ m. omega (arith, all m)) (λ m l. absurd (omega arith))
+  pub rows-none : ((m : ℕ) → Above 0 m) → (m : ℕ) → scores_in rows m ≡ 0
+  rows-none a m = is_none m (a m)
 
 -- ---- in empty rows no node scores
 
@@ -120,4 +108,4 @@ blank-row g m = elim (dec_le capacity m) [
 ]
 
 pub blank-scores : (m : ℕ) → scores_in (replicate score_words 0) m ≡ 0
-blank-scores m = is_none (replicate score_words 0) m (blank-row 3 m) (blank-row 2 m) (blank-row 1 m)
+blank-scores m = is_none (replicate score_words 0) m (λ h k l. blank-row h m)

@@ -2,7 +2,7 @@
 // highest row that has one, found word by word and not node by node.
 #![tactic(auto)]
 
-ghost use Rattle.std.specs.Prelude.{◌≡◌, cond, ℕ, ◌≤◌, ◌<◌, length};
+ghost use Rattle.std.specs.Prelude.{◌≡◌, cond, ℕ, ◌≤◌, ◌<◌, length, IfSome, IfNone};
 ghost use Rattle.clause.specs.Sets.{with, without};
 ghost use Rattle.clause.specs.Denote.{word};
 ghost use Rattle.sheet.specs.Editions.{capacity};
@@ -65,52 +65,32 @@ fn lowest(bits: u64) -> u32
     u64::trailing_zeros(bits)
 }
 
-// The first node of a row, or CAPACITY if it has none.
-fn first_in(rows: &[u64], g: usize) -> NodeNo
+// The first node of a row, if it has one.
+fn first_in(rows: &[u64], g: usize) -> Option<NodeNo>
     requires { (length rows.now ≡ score_words) × (1 ≤ g) × (g ≤ 3) }
-    ensures { FirstIn rows.now g result.0 }
+    ensures some { IfSome result (λ n. (n.0 < capacity) × FirstIn rows.now g n.0) }
+    ensures none { IfNone result (FirstIn rows.now g capacity) }
 {
     let from = (g - 1) * ROW_WORDS;
-    let mut w = 0;
-    while w < ROW_WORDS {
+    for w in 0..ROW_WORDS {
         let bits = rows[from + w];
         if bits != 0 {
-            return NodeNo((w * WORD + lowest(bits) as usize) as u16);
+            return Some(NodeNo((w * WORD + lowest(bits) as usize) as u16));
         }
-        w += 1;
     }
-    NodeNo(CAPACITY as u16)
+    None
 }
 
-// "ties go to the smallest number". In empty rows that is node 0, which scores 0.
-pub fn highest(rows: &[u64]) -> Best
+// "ties go to the smallest number": the first node of the highest row that has one, if a node scores at all.
+pub fn highest(rows: &[u64]) -> Option<Best>
     requires { length rows.now ≡ score_words }
-    ensures node { result.node.0 ≡ highest (scores_in rows.now) capacity }
-    ensures score { result.score ≡ scores_in rows.now result.node.0 }
+    ensures some { IfSome result (λ best. (best.node.0 ≡ highest (scores_in rows.now) capacity) × (best.score ≡ scores_in rows.now best.node.0) × (0 < best.score)) }
+    ensures none { IfNone result (scores_in rows.now (highest (scores_in rows.now) capacity) ≡ 0) }
 {
-    let three = first_in(rows, 3);
-    if three.index() < CAPACITY {
-        return Best {
-            node: three,
-            score: 3,
-        };
+    for score in (1..=3u16).rev() {
+        if let Some(node) = first_in(rows, usize::from(score)) {
+            return Some(Best { node, score });
+        }
     }
-    let two = first_in(rows, 2);
-    if two.index() < CAPACITY {
-        return Best {
-            node: two,
-            score: 2,
-        };
-    }
-    let one = first_in(rows, 1);
-    if one.index() < CAPACITY {
-        return Best {
-            node: one,
-            score: 1,
-        };
-    }
-    Best {
-        node: NodeNo(0),
-        score: 0,
-    }
+    None
 }

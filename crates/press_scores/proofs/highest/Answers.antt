@@ -1,27 +1,16 @@
-use native.Mathlib.Omega.{arith}
-use Rattle.press_scores.proofs.Found.{best-three, best-two, best-one, best_none}
+use Rattle.std.proofs.Common.{arith}
+use Rattle.press_scores.proofs.Found.{above-next, row-none, row-highest, rows-none}
 use Rattle.press_scores.proofs.highest.Goals as goal
 
-pub returns-then-index-lt-CAPACITY-clause-node : goal.returns-then-index-lt-CAPACITY-clause-node
-returns-then-index-lt-CAPACITY-clause-node c = (best-three c.args.rows.now c.first_in-three.result.0 c.first_in-three.ensures (omega (arith, c.index.ensures, c.if-index-lt-CAPACITY.true))).0
+pub returns-in-Some-clause-some : goal.returns-in-Some-clause-some
+returns-in-Some-clause-some c =
+    let f = rw c.from.ensures at c.in-Some.ensures.some in
+    row-highest c.args.rows.now c.loop-score.score c.in-Some.node.0 (omega arith) (omega arith) f.0 f.1 c.loop-score.invariant
 
-pub returns-then-index-lt-CAPACITY-clause-score : goal.returns-then-index-lt-CAPACITY-clause-score
-returns-then-index-lt-CAPACITY-clause-score c = (best-three c.args.rows.now c.first_in-three.result.0 c.first_in-three.ensures (omega (arith, c.index.ensures, c.if-index-lt-CAPACITY.true))).1
+pub loop-score-preserved : goal.loop-score-preserved
+loop-score-preserved c m h k l =
+    let none = rw c.from.ensures at c.in_default.ensures.none in
+    above-next c.args.rows.now m c.loop-score.score (c.loop-score.invariant m) (row-none c.args.rows.now c.loop-score.score none m) h (omega arith) l
 
-pub returns-then-index-lt-CAPACITY-2-clause-node : goal.returns-then-index-lt-CAPACITY-2-clause-node
-returns-then-index-lt-CAPACITY-2-clause-node c = (best-two c.args.rows.now _ c.first_in-three.ensures (omega (arith, c.index.ensures, c.if-index-lt-CAPACITY.false)) c.first_in-two.result.0 c.first_in-two.ensures (omega (arith, c.index-2.ensures, c.if-index-lt-CAPACITY-2.true))).0
-
-pub returns-then-index-lt-CAPACITY-2-clause-score : goal.returns-then-index-lt-CAPACITY-2-clause-score
-returns-then-index-lt-CAPACITY-2-clause-score c = (best-two c.args.rows.now _ c.first_in-three.ensures (omega (arith, c.index.ensures, c.if-index-lt-CAPACITY.false)) c.first_in-two.result.0 c.first_in-two.ensures (omega (arith, c.index-2.ensures, c.if-index-lt-CAPACITY-2.true))).1
-
-pub returns-then-index-lt-CAPACITY-3-clause-node : goal.returns-then-index-lt-CAPACITY-3-clause-node
-returns-then-index-lt-CAPACITY-3-clause-node c = (best-one c.args.rows.now _ c.first_in-three.ensures (omega (arith, c.index.ensures, c.if-index-lt-CAPACITY.false)) _ c.first_in-two.ensures (omega (arith, c.index-2.ensures, c.if-index-lt-CAPACITY-2.false)) c.first_in-one.result.0 c.first_in-one.ensures (omega (arith, c.index-3.ensures, c.if-index-lt-CAPACITY-3.true))).0
-
-pub returns-then-index-lt-CAPACITY-3-clause-score : goal.returns-then-index-lt-CAPACITY-3-clause-score
-returns-then-index-lt-CAPACITY-3-clause-score c = (best-one c.args.rows.now _ c.first_in-three.ensures (omega (arith, c.index.ensures, c.if-index-lt-CAPACITY.false)) _ c.first_in-two.ensures (omega (arith, c.index-2.ensures, c.if-index-lt-CAPACITY-2.false)) c.first_in-one.result.0 c.first_in-one.ensures (omega (arith, c.index-3.ensures, c.if-index-lt-CAPACITY-3.true))).1
-
-pub returns-clause-node : goal.returns-clause-node
-returns-clause-node c = (best_none c.args.rows.now _ c.first_in-three.ensures (omega (arith, c.index.ensures, c.if-index-lt-CAPACITY.false)) _ c.first_in-two.ensures (omega (arith, c.index-2.ensures, c.if-index-lt-CAPACITY-2.false)) c.first_in-one.result.0 c.first_in-one.ensures (omega (arith, c.index-3.ensures, c.if-index-lt-CAPACITY-3.false))).0
-
-pub returns-clause-score : goal.returns-clause-score
-returns-clause-score c = (best_none c.args.rows.now _ c.first_in-three.ensures (omega (arith, c.index.ensures, c.if-index-lt-CAPACITY.false)) _ c.first_in-two.ensures (omega (arith, c.index-2.ensures, c.if-index-lt-CAPACITY-2.false)) c.first_in-one.result.0 c.first_in-one.ensures (omega (arith, c.index-3.ensures, c.if-index-lt-CAPACITY-3.false))).1
+pub returns-clause-none : goal.returns-clause-none
+returns-clause-none c = rows-none c.args.rows.now (λ m h k l. c.loop-score.invariant m h (omega arith) l) _
