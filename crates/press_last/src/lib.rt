@@ -7,11 +7,12 @@ ghost use Rattle.sheet.specs.Editions.{capacity};
 ghost use Rattle.press_nodes.specs.Tables.{links_in, Links};
 ghost use Rattle.press_last.specs.LastUses.{note_use, last_turn, last_uses, used_after};
 
+use press_nodes::link;
 use press_nodes::link::Link;
-use press_nodes::{clear, link};
 use sheet::NodeNo;
 
 // Node i names n: that is its last use, unless one is noted already, since the walk comes from the end.
+#[tactic(auto, unfolding(crate::specs::LastUses::note_use))]
 fn note_use(i: NodeNo, n: NodeNo, last: &mut [u16])
     requires { (n.0 < length last.old) × (i.0 < capacity) }
     ensures { last.new ≡ note_use i.0 n.0 last.old }
@@ -41,15 +42,14 @@ pub fn last_uses(links: &[u64], last: &mut [u16])
     requires last_len { length last.old ≡ length links.now }
     ensures { last.new ≡ last_uses (links_in links.now) }
 {
-    clear::clear_numbers(last);
-    let mut i = links.len() as u16;
-    while 0 < i {
-        i -= 1;
-        last_turn(links, NodeNo(i), last);
+    last.fill(0);
+    for i in (0..links.len()).rev() {
+        last_turn(links, NodeNo(i as u16), last);
     }
 }
 
 // Whether a node after k names n.
+#[tactic(auto, unfolding(crate::specs::LastUses::used_after))]
 pub fn used_after(last: &[u16], k: NodeNo, n: NodeNo) -> bool
     requires { n.0 < length last.now }
     ensures { result ≡ used_after last.now k.0 n.0 }

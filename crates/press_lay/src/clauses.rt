@@ -14,15 +14,12 @@ pub fn lay_clauses(clauses: &[u64], numbers: &[u16], laid: &mut [u64])
     requires clauses_len { (length clauses.now ≡ clause_words (length numbers.now)) × (length numbers.now ≤ capacity) }
     ensures { (n : ℕ) → HasPlace numbers.now n → clauses_in laid.new (place_in numbers.now n) ≡ clauses_in clauses.now n }
 {
-    let mut i = 0;
-    while i < numbers.len() {
-        let place = numbers[i];
-        if 0 < place {
+    for (i, place) in numbers.iter().enumerate() {
+        if 0 < *place {
             let n = NodeNo(i as u16);
-            let k = NodeNo(place - 1);
+            let k = NodeNo(*place - 1);
             let clause = clause_table::clause_at(clauses, n);
             clause_table::put_clause(laid, k, clause);
         }
-        i += 1;
     }
 }

@@ -45,11 +45,9 @@ pub fn lay_links(links: &[u64], numbers: &[u16], laid: &mut [u64])
     requires numbers_len { length numbers.now ≡ length links.now }
     ensures { (order : List ℕ) → Orderly links.now order → Numbered numbers.now order → length order ≡ length laid.old → links_in laid.new ≡ laid_links (links_in links.now) order }
 {
-    let mut n = 0;
-    while n < links.len() {
+    for n in 0..links.len() {
         if 0 < numbers[n] {
             lay_link(links, numbers, NodeNo(n as u16), laid);
         }
-        n += 1;
     }
 }

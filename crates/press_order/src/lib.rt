@@ -8,8 +8,8 @@ ghost use Rattle.press_nodes.specs.Tables.{links_in, Links};
 ghost use Rattle.press_spec.specs.Order.{right_first, place, order_from};
 ghost use Rattle.press_order.specs.Placing.{Numbered, Stands, Placing};
 
+use press_nodes::link;
 use press_nodes::link::Link;
-use press_nodes::{clear, link};
 use press_trim::uses;
 use sheet::NodeNo;
 use sheet::limits::CAPACITY;
@@ -80,6 +80,6 @@ pub fn order_from(links: &[u64], from: NodeNo, numbers: &mut [u16]) -> u16
     let mut counts = [0u16; CAPACITY];
     let n = links.len();
     uses::uses_from(links, from, &mut counts[..n]);
-    clear::clear_numbers(numbers);
+    numbers.fill(0);
     place(links, &counts[..n], from, numbers, 0)
 }

@@ -1,6 +1,5 @@
 -- What the peak's walk over the nodes finds at each.
 use Prim.Native.Nat.{ℕ, suc, ◌+◌, ◌-◌, ◌≤◌, ◌<◌, min, max}
-use mathlib.Core.Bool.{true, false}
 use mathlib.Core.Path.{◌≡◌}
 use mathlib.Core.List.{List}
 use native.Mathlib.Omega.{arith}
@@ -19,14 +18,6 @@ use Rattle.press_last.proofs.Joined.{Joined, drops_same, drops-two}
 -- ---- one parent
 
 module _ (last : List ℕ) (k n : ℕ) where
-  pub drop-none : true ≡ used_after last k n → 0 ≡ length (drop_by last k n)
-  unfolding drop_by
-  drop-none e = rw (← e)
-
-  pub drop-one : false ≡ used_after last k n → 1 ≡ length (drop_by last k n)
-  unfolding drop_by
-  drop-one e = rw (← e)
-
   pub drop-most : (count : ℕ) → count ≡ length (drop_by last k n) → count ≤ 1
   unfolding drop_by
   drop-most count e = rw e (cond_both (λ (rs : List Record). length rs ≤ 1) (used_after last k n) _ _ (omega arith) (omega arith))

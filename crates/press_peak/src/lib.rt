@@ -14,14 +14,12 @@ use sheet::NodeNo;
 use sheet::limits::CAPACITY;
 
 // How many drops of n come after node k: one, or none if a later node names it.
+#[tactic(auto, unfolding(press_last::specs::LastUses::drop_by))]
 fn drop_count(last: &[u16], k: NodeNo, n: NodeNo) -> u16
     requires { n.0 < length last.now }
     ensures { result ≡ length (drop_by last.now k.0 n.0) }
 {
-    if press_last::used_after(last, k, n) {
-        return 0;
-    }
-    1
+    u16::from(!press_last::used_after(last, k, n))
 }
 
 // How many nodes are dropped after node k.
@@ -40,13 +38,6 @@ fn dropped_after(links: &[u64], last: &[u16], k: NodeNo) -> u16
     of_left + drop_count(last, k, right)
 }
 
-// What is left of a number when so many go; of fewer, none.
-fn less(a: u16, b: u16) -> u16
-    ensures { result ≡ a - b }
-{
-    if a < b { 0 } else { a - b }
-}
-
 // Fills the table of last uses, which is lent; then each node is held, and what it uses last is not.
 fn peak_with(links: &[u64], last: &mut [u16]) -> u16
     requires links { Links links.now }
@@ -56,13 +47,11 @@ fn peak_with(links: &[u64], last: &mut [u16]) -> u16
     press_last::last_uses(links, last);
     let mut held: u16 = 0;
     let mut peak: u16 = 0;
-    let mut k = 0;
-    while k < links.len() {
+    for k in 0..links.len() {
         let more = held + 1;
         peak = peak.max(more);
         let gone = dropped_after(links, last, NodeNo(k as u16));
-        held = less(more, gone);
-        k += 1;
+        held = more.saturating_sub(gone);
     }
     peak
 }

@@ -91,23 +91,14 @@ module _ (p : ℕ → ℕ) where
 -- ---- the parent on a side
 
 module _ (side : Side) (x : Link) where
-  pub parent-none : {line : ℕ} → x ≡ leaf line → 0 ≡ parent_on side x
+  pub parent-none : {line : ℕ} → x ≡ leaf line → parent_on side x ≡ 0
   unfolding parent_on
   parent-none e = rw e
 
-  pub parent-left : {p l r : ℕ} → side ≡ Left → x ≡ join p l r → l + 1 ≡ parent_on side x
+  pub parent-left : {p l r : ℕ} → side ≡ Left → x ≡ join p l r → parent_on side x ≡ suc l
   unfolding parent_on
-  parent-left q e = rw (q, e) (add-one _)
+  parent-left q e = rw (q, e)
 
-  pub parent-right : {p l r : ℕ} → side ≡ Right → x ≡ join p l r → r + 1 ≡ parent_on side x
+  pub parent-right : {p l r : ℕ} → side ≡ Right → x ≡ join p l r → parent_on side x ≡ suc r
   unfolding parent_on
-  parent-right q e = rw (q, e) (add-one _)
-
-  pub parent-below : (n : ℕ) → Sound n x → 1 ≤ parent_on side x → parent_on side x - 1 < n
-  unfolding parent_on
-  parent-below n = by side x
-    where
-      by : (side : Side) (x : Link) → Sound n x → 1 ≤ parent_on side x → parent_on side x - 1 < n
-      by side (leaf line) d h = absurd (omega arith)
-      by Left (join p l r) d h = omega (arith, d.1)
-      by Right (join p l r) d h = omega (arith, d.2)
+  parent-right q e = rw (q, e)

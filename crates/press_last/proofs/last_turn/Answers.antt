@@ -1,4 +1,4 @@
-use native.Mathlib.Omega.{arith}
+use Rattle.std.proofs.Common.{arith}
 use Rattle.press_nodes.proofs.Found.{found-leaf, found-join, found-sound}
 use Rattle.press_last.proofs.Noting.{turn-leaf, turn-join}
 use Rattle.press_last.proofs.last_turn.Goals as goal
@@ -7,19 +7,14 @@ pub returns-in_default : goal.returns-in_default
 returns-in_default c = let e = found-leaf _ _ _ c.link_at.ensures c.in_default.is in search turn-leaf
 
 pub note_use-requires : goal.note_use-requires
-note_use-requires c = let a = c in
-    let s = a in
-    let o = found-sound _ _ _ _ _ _ s.requires.links s.requires.last_len.1 a.link_at.ensures a.in-Join.is in
-    (omega arith, omega (arith, s.requires.links.few))
+note_use-requires c =
+    let o = found-sound _ _ _ _ _ _ c.requires.links c.requires.last_len.1 c.link_at.ensures c.in-Join.is in
+    (omega arith, omega (arith, c.requires.links.few))
 
 pub note_use-requires-2 : goal.note_use-requires-2
-note_use-requires-2 c = let a = c in
-    let s = a in
-    let o = found-sound _ _ _ _ _ _ s.requires.links s.requires.last_len.1 a.link_at.ensures a.in-Join.is in
-    (omega arith, omega (arith, s.requires.links.few))
+note_use-requires-2 c =
+    let o = found-sound _ _ _ _ _ _ c.requires.links c.requires.last_len.1 c.link_at.ensures c.in-Join.is in
+    (omega arith, omega (arith, c.requires.links.few))
 
 pub returns : goal.returns
-returns c = let one = c in
-    let a = one in
-    let e = found-join _ _ _ _ _ a.link_at.ensures a.in-Join.is in
-    search turn-join
+returns c = let e = found-join _ _ _ _ _ c.link_at.ensures c.in-Join.is in search turn-join

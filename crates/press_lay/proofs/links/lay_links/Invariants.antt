@@ -1,16 +1,7 @@
-use Prim.Native.Nat.{◌-◌, ◌≤◌}
-use mathlib.Core.Path.{◌≡◌}
-use lib.ListN.{length}
 use Rattle.press_spec.specs.Links.{link_at}
 use Rattle.press_nodes.specs.Tables.{links_in}
 use Rattle.press_lay.proofs.Laying.{LaidBelow, relinked}
 use Rattle.press_lay.proofs.links.lay_links.Given as goal
 
 abbrev pub invariant-loop-n : goal.invariant-loop-n
-invariant-loop-n l =
-    (l.n ≤ length l.links)
-    × (length l.laid ≡ length l.initial.laid)
-    × LaidBelow l.numbers (relinked l.numbers l.links) l.n (link_at (links_in l.laid))
-
-abbrev pub decreases-loop-n : goal.decreases-loop-n
-decreases-loop-n l = length l.links - l.n
+invariant-loop-n l = LaidBelow l.numbers (relinked l.numbers l.links) l.n (link_at (links_in l.laid))
