@@ -22,7 +22,7 @@ pub struct Chosen {
 }
 
 // The peak of the order of so many nodes that stands in the table of numbers. It is a matter of the links, which are laid out for it alone.
-fn peak_by(links: &[u64], numbers: &[u16], nodes: u16) -> u16
+fn peak_by(links: &[Link], numbers: &[u16], nodes: u16) -> u16
     requires links { Links links.now }
     requires laying { Laying links.now numbers.now nodes }
     requires numbers_len { (length numbers.now ≡ length links.now) × (nodes ≤ most_nodes) }
@@ -35,7 +35,7 @@ fn peak_by(links: &[u64], numbers: &[u16], nodes: u16) -> u16
 }
 
 // The places of what a node reaches, in the better order; whatever the clauses are, since an order and its peak are a matter of the links.
-pub fn better_order(links: &[u64], from: NodeNo, numbers: &mut [u16]) -> Chosen
+pub fn better_order(links: &[Link], from: NodeNo, numbers: &mut [u16]) -> Chosen
     requires links { Links links.now }
     requires numbers_len { (length numbers.old ≡ length links.now) × (from.0 < length links.now) × (length (order_from (links_in links.now) from.0) ≤ most_nodes) }
     ensures order { (clauses : List ℕ) → result.order ≡ better_of (nodes_in links.now clauses) from.0 }

@@ -30,8 +30,8 @@ fn emit_last(last: &[u16], k: NodeNo, n: NodeNo, out: &mut [u8], e: Emitted) -> 
 
 // Node k, and the drops of what it names last: two of them by rising number.
 fn emit_turn(
-    links: &[u64],
-    clauses: &[u64],
+    links: &[Link],
+    clauses: &[Clause],
     last: &[u16],
     k: NodeNo,
     out: &mut [u8],
@@ -72,8 +72,8 @@ fn higher(left: NodeNo, right: NodeNo) -> NodeNo
 // Fills the table of last uses, which is lent; then each node and the drops after it.
 fn emit_with(
     edition: Edition,
-    links: &[u64],
-    clauses: &[u64],
+    links: &[Link],
+    clauses: &[Clause],
     last: &mut [u16],
     out: &mut [u8],
 ) -> Emitted
@@ -97,7 +97,7 @@ fn emit_with(
 }
 
 // Every node in order, with the drops after it.
-pub fn emit_records(edition: Edition, links: &[u64], clauses: &[u64], out: &mut [u8]) -> Emitted
+pub fn emit_records(edition: Edition, links: &[Link], clauses: &[Clause], out: &mut [u8]) -> Emitted
     requires nodes { Nodes links.now clauses.now }
     requires roomy { Roomy (with_drops (nodes_in links.now clauses.now)) (unwritten edition out.old) }
     ensures { emission_of out.new result ≡ emit_all (with_drops (nodes_in links.now clauses.now)) (unwritten edition out.old) }

@@ -43,7 +43,7 @@ module _ {s : List Link} {last : List ℕ} {k l r : ℕ} (d : Joined s last k l 
       rw (d.is, ne_eqb l r q, by-table (min l r) (omega (arith, d.low)), by-table (max l r) (omega (arith, d.low)))
 
 -- as the code finds it
-pub found-joined : (h last : List ℕ) (k : ℕ) (x : CodeLink) (p : ℕ) (l r : NodeNo) → Links h → k < length h → last ≡ last_uses (links_in h)
+pub found-joined : (h : List CodeLink) (last : List ℕ) (k : ℕ) (x : CodeLink) (p : ℕ) (l r : NodeNo) → Links h → k < length h → last ≡ last_uses (links_in h)
     → link_in x ≡ link_at (links_in h) k → x ≡ Join p l r → Joined (links_in h) last k l.0 r.0
 found-joined h last k x p l r t i noted e q =
     let o = found-sound h k x p l r t i e q in

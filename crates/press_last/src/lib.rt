@@ -24,7 +24,7 @@ fn note_use(i: NodeNo, n: NodeNo, last: &mut [u16])
 }
 
 // The turn at node i.
-fn last_turn(links: &[u64], i: NodeNo, last: &mut [u16])
+fn last_turn(links: &[Link], i: NodeNo, last: &mut [u16])
     requires links { Links links.now }
     requires last_len { (length last.old ≡ length links.now) × (i.0 < length links.now) }
     ensures { last.new ≡ last_turn (links_in links.now) i.0 last.old }
@@ -37,7 +37,7 @@ fn last_turn(links: &[u64], i: NodeNo, last: &mut [u16])
 }
 
 // For each node one more than the number of the last node that names it, or 0 if none does.
-pub fn last_uses(links: &[u64], last: &mut [u16])
+pub fn last_uses(links: &[Link], last: &mut [u16])
     requires links { Links links.now }
     requires last_len { length last.old ≡ length links.now }
     ensures { last.new ≡ last_uses (links_in links.now) }

@@ -9,7 +9,7 @@ use press_nodes::clause_table;
 use sheet::NodeNo;
 
 // The clause of each node that has a place, at that place: some order stands in the table of numbers, and `laid` has room for its clauses.
-pub fn lay_clauses(clauses: &[u64], numbers: &[u16], laid: &mut [u64])
+pub fn lay_clauses(clauses: &[Clause], numbers: &[u16], laid: &mut [u64])
     requires by_index { (order : List ℕ) × Numbered numbers.now order × (length laid.old ≡ clause_words (length order)) }
     requires clauses_len { (length clauses.now ≡ clause_words (length numbers.now)) × (length numbers.now ≤ capacity) }
     ensures { (n : ℕ) → HasPlace numbers.now n → clauses_in laid.new (place_in numbers.now n) ≡ clauses_in clauses.now n }

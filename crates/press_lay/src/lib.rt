@@ -13,8 +13,8 @@ pub mod links;
 
 // The nodes of the order that stands in the table of numbers: the pressed tables have room for just these.
 pub fn lay(
-    links: &[u64],
-    clauses: &[u64],
+    links: &[Link],
+    clauses: &[Clause],
     numbers: &[u16],
     pressed_links: &mut [u64],
     pressed_clauses: &mut [u64],

@@ -14,7 +14,7 @@ use press_nodes::{clear, link};
 use sheet::NodeNo;
 
 // The line of node k is marked, if it is a given.
-fn mark_turn(links: &[u64], k: NodeNo, core: &mut [u8])
+fn mark_turn(links: &[Link], k: NodeNo, core: &mut [u8])
     requires links { Links links.now }
     requires k_in_bounds { (k.0 < length links.now) × LinesBelow (length core.old) (links_in links.now) }
     ensures { core.new ≡ mark_link (link_at (links_in links.now) k.0) core.old }
@@ -28,7 +28,7 @@ fn mark_turn(links: &[u64], k: NodeNo, core: &mut [u8])
 }
 
 // Every line of a given node, and no other.
-fn mark_core(links: &[u64], core: &mut [u8])
+fn mark_core(links: &[Link], core: &mut [u8])
     requires links { Links links.now }
     requires lines_below { LinesBelow (length core.old) (links_in links.now) }
     ensures { core.new ≡ mark_lines (links_in links.now) (replicate (length core.old) 0) }
@@ -56,7 +56,7 @@ fn count_marks(core: &[u8]) -> u16
 }
 
 // The marks of the first `lines` bytes, and how many there are.
-pub fn mark_lines(links: &[u64], lines: usize, marks: &mut [u8]) -> u16
+pub fn mark_lines(links: &[Link], lines: usize, marks: &mut [u8]) -> u16
     requires links { Links links.now }
     requires lines_le_most_lines { (lines ≤ most_lines) × (lines ≤ length marks.old) × LinesBelow lines (links_in links.now) }
     ensures marks { marks.new ≡ put marks.old 0 (mark_lines (links_in links.now) (replicate lines 0)) }

@@ -52,7 +52,7 @@ pub fn put_next(n: NodeNo, numbers: &mut [u16], count: u16) -> u16
 }
 
 // Places node n, after its premises. "A parent's number in step 4 is always smaller than its child's": the node number falls at each call.
-fn place(links: &[u64], counts: &[u16], n: NodeNo, numbers: &mut [u16], count: u16) -> u16
+fn place(links: &[Link], counts: &[u16], n: NodeNo, numbers: &mut [u16], count: u16) -> u16
     requires { Placing links.now counts.now numbers.old n.0 count }
     ensures { (order : List ℕ) (d : ℕ) → Stands numbers.old count order → n.0 < d → Stands numbers.new result (place (links_in links.now) (λ m. get_or counts.now m 0) d n.0 order) }
 {
@@ -71,7 +71,7 @@ fn place(links: &[u64], counts: &[u16], n: NodeNo, numbers: &mut [u16], count: u
 }
 
 // 4 and 5: the places of what a node reaches, by its uses there, and how many there are.
-pub fn order_from(links: &[u64], from: NodeNo, numbers: &mut [u16]) -> u16
+pub fn order_from(links: &[Link], from: NodeNo, numbers: &mut [u16]) -> u16
     requires links { Links links.now }
     requires numbers_len { (length numbers.old ≡ length links.now) × (from.0 < length links.now) }
     ensures numbers { Numbered numbers.new (order_from (links_in links.now) from.0) }

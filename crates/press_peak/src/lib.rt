@@ -23,7 +23,7 @@ fn drop_count(last: &[u16], k: NodeNo, n: NodeNo) -> u16
 }
 
 // How many nodes are dropped after node k.
-fn dropped_after(links: &[u64], last: &[u16], k: NodeNo) -> u16
+fn dropped_after(links: &[Link], last: &[u16], k: NodeNo) -> u16
     requires links { Links links.now }
     requires k_in_bounds { (k.0 < length links.now) × (last.now ≡ last_uses (links_in links.now)) }
     ensures { result ≡ length (drops_after (link_at (links_in links.now) k.0) (after (k.0 + 1) (links_in links.now))) }
@@ -32,14 +32,14 @@ fn dropped_after(links: &[u64], last: &[u16], k: NodeNo) -> u16
         return 0;
     };
     let of_left = drop_count(last, k, left);
-    if left.0 == right.0 {
+    if left == right {
         return of_left;
     }
     of_left + drop_count(last, k, right)
 }
 
 // Fills the table of last uses, which is lent; then each node is held, and what it uses last is not.
-fn peak_with(links: &[u64], last: &mut [u16]) -> u16
+fn peak_with(links: &[Link], last: &mut [u16]) -> u16
     requires links { Links links.now }
     requires last_len { length last.old ≡ length links.now }
     ensures { result ≡ peak_of_links 0 (links_in links.now) }
@@ -57,7 +57,7 @@ fn peak_with(links: &[u64], last: &mut [u16]) -> u16
 }
 
 // The peak of the nodes that have these links, in this order, with their drops.
-pub fn peak_of_links(links: &[u64]) -> u16
+pub fn peak_of_links(links: &[Link]) -> u16
     requires { Links links.now }
     ensures { result ≡ peak_of_links 0 (links_in links.now) }
 {

@@ -7,7 +7,7 @@ use lib.ListN.{length, take, drop, length-drop, drop_of_length-le}
 use lib.Seq.{length-take-le, length_front, take_at, drop_at}
 use borrow.Rule.Slice.PartMut.{put_mid, same_len_mid}
 use Rattle.press_nodes.specs.Tables.{links_in}
-use Rattle.press_users.specs.declared.Side.TheVariants.{Left, Right}
+use Rattle.press_nodes.specs.declared.fate.Side.TheVariants.{Left, Right}
 use Rattle.press_users.specs.Chains.{Chain}
 use Rattle.press_top_down.specs.Renewed.{Users}
 

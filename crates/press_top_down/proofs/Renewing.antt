@@ -11,7 +11,7 @@ use Rattle.press_spec.specs.Links.{Link, leaf, join, link_at}
 use Rattle.press_spec.specs.Trim.{naming, uses_in}
 use Rattle.press_nodes.specs.Tables.{links_in, changed}
 use Rattle.press_nodes.proofs.Tables.{links-length}
-use Rattle.press_users.specs.declared.Side.{Side}
+use Rattle.press_nodes.specs.declared.fate.Side.{Side}
 use Rattle.press_users.specs.Chains.{parent_on, Chaining}
 use Rattle.press_scores.specs.Rows.{score_words, scores_in}
 use Rattle.press_top_down.specs.Renewed.{Tables, Scored, Renewed, Names, Touched, itself, user, sharer}

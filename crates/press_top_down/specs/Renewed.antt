@@ -3,7 +3,7 @@ use Rattle.std.specs.Prelude.{ℕ, suc, ◌*◌, ◌≤◌, ◌≡◌, ◌⊎◌
 use Rattle.press_spec.specs.Links.{Link, link_at}
 use Rattle.press_spec.specs.Trim.{uses_in}
 use Rattle.press_nodes.specs.Tables.{links_in, Links}
-use Rattle.press_users.specs.declared.Side.TheVariants.{Left, Right}
+use Rattle.press_nodes.specs.declared.fate.Side.TheVariants.{Left, Right}
 use Rattle.press_users.specs.Chains.{parent_on, Chain}
 use Rattle.press_scores.specs.Rows.{score_words, scores_in}
 

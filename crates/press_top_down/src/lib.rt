@@ -40,7 +40,7 @@ fn take_uses(ahead: &mut [u16], l: NodeNo, r: NodeNo)
 }
 
 // The places in node n, which is placed now, are in no unplaced node.
-fn close(links: &[u64], n: NodeNo, ahead: &mut [u16])
+fn close(links: &[Link], n: NodeNo, ahead: &mut [u16])
     requires links { Links links.now }
     requires ahead_len { (length ahead.old ≡ length links.now) × (n.0 < length links.now) }
     requires by_index { (m : ℕ) → uses_in m (link_at (links_in links.now) n.0) ≤ get_or ahead.old m 0 }
@@ -54,7 +54,7 @@ fn close(links: &[u64], n: NodeNo, ahead: &mut [u16])
 
 // Node n comes next in the order, which has `count` nodes so far: how many it has then.
 fn take(
-    links: &[u64],
+    links: &[Link],
     n: NodeNo,
     left: &mut [u8],
     ahead: &mut [u16],
@@ -75,7 +75,7 @@ fn take(
 }
 
 // The users of each node: by their left parent in the first half of the tables, by their right one in the second.
-fn chains(links: &[u64], heads: &mut [u16], nexts: &mut [u16])
+fn chains(links: &[Link], heads: &mut [u16], nexts: &mut [u16])
     requires links { Links links.now }
     requires heads_len { (length heads.old ≡ 2 * length links.now) × (length nexts.old ≡ 2 * length links.now) }
     ensures { Users links.now heads.new nexts.new }
@@ -87,7 +87,7 @@ fn chains(links: &[u64], heads: &mut [u16], nexts: &mut [u16])
 
 // No node is placed, and each has its score.
 fn begin(
-    links: &[u64],
+    links: &[Link],
     from: NodeNo,
     left: &mut [u8],
     ahead: &mut [u16],
@@ -109,7 +109,7 @@ fn begin(
 
 // Turns until no node can be taken.
 fn turns(
-    links: &[u64],
+    links: &[Link],
     from: NodeNo,
     left: &mut [u8],
     ahead: &mut [u16],
@@ -138,7 +138,7 @@ fn turns(
 
 // The order, with the tables that its turns need.
 fn ordered(
-    links: &[u64],
+    links: &[Link],
     from: NodeNo,
     left: &mut [u8],
     ahead: &mut [u16],
@@ -157,7 +157,7 @@ fn ordered(
 }
 
 // The places of what a node reaches, and how many there are.
-pub fn top_down(links: &[u64], from: NodeNo, numbers: &mut [u16]) -> u16
+pub fn top_down(links: &[Link], from: NodeNo, numbers: &mut [u16]) -> u16
     requires links { Links links.now }
     requires numbers_len { (length numbers.old ≡ length links.now) × (from.0 < length links.now) }
     ensures numbers { Numbered numbers.new (top_down (links_in links.now) from.0) }

@@ -16,7 +16,7 @@ use press_users::Side;
 use sheet::NodeNo;
 
 // The score of one node.
-fn renew(links: &[u64], left: &[u8], ahead: &[u16], numbers: &[u16], n: NodeNo, rows: &mut [u64])
+fn renew(links: &[Link], left: &[u8], ahead: &[u16], numbers: &[u16], n: NodeNo, rows: &mut [u64])
     requires tables { Tables links.now left.now ahead.now numbers.now rows.old }
     requires n_in_bounds { n.0 < length links.now }
     ensures { Renewed (score_in (links_in links.now) left.now ahead.now numbers.now) (λ m. m ≡ n.0) rows.old rows.new }
@@ -27,7 +27,7 @@ fn renew(links: &[u64], left: &[u8], ahead: &[u16], numbers: &[u16], n: NodeNo, 
 
 // The scores of the steps that have q for their parent on a side. Which side it is only the contract asks: the tables have the chains of that side.
 fn renew_chain(
-    links: &[u64],
+    links: &[Link],
     left: &[u8],
     ahead: &[u16],
     numbers: &[u16],
@@ -54,7 +54,7 @@ fn renew_chain(
 
 // The scores of the steps that name q.
 fn renew_users(
-    links: &[u64],
+    links: &[Link],
     left: &[u8],
     ahead: &[u16],
     numbers: &[u16],
@@ -95,7 +95,7 @@ fn renew_users(
 
 // The scores of the steps that name q, unless 3 places or more do: then none of them gains by q, now as before.
 fn renew_sharers(
-    links: &[u64],
+    links: &[Link],
     left: &[u8],
     ahead: &[u16],
     numbers: &[u16],
@@ -118,7 +118,7 @@ fn renew_sharers(
 
 // The scores that taking node n, which is placed now, can change.
 pub(crate) fn renew_touched(
-    links: &[u64],
+    links: &[Link],
     left: &[u8],
     ahead: &[u16],
     numbers: &[u16],
@@ -148,7 +148,7 @@ pub(crate) fn renew_touched(
 
 // The scores of all nodes, in a table that has none yet.
 pub(crate) fn renew_all(
-    links: &[u64],
+    links: &[Link],
     left: &[u8],
     ahead: &[u16],
     numbers: &[u16],

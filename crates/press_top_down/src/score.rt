@@ -33,7 +33,7 @@ fn gain(ahead: &[u16], l: NodeNo, r: NodeNo) -> u16
 }
 
 // 0 for a node that is placed or has a parent that is not, else one more than what it gains.
-pub(crate) fn score(links: &[u64], left: &[u8], ahead: &[u16], numbers: &[u16], n: NodeNo) -> u16
+pub(crate) fn score(links: &[Link], left: &[u8], ahead: &[u16], numbers: &[u16], n: NodeNo) -> u16
     requires links { Links links.now }
     requires left_len { (length left.now ≡ length links.now) × (length ahead.now ≡ length links.now) × (length numbers.now ≡ length links.now) × (n.0 < length links.now) }
     ensures { result ≡ score_in (links_in links.now) left.now ahead.now numbers.now n.0 }

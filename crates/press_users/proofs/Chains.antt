@@ -4,14 +4,12 @@ use mathlib.Core.Path.{◌≡◌, sym, ap, ◌∙◌}
 use mathlib.Core.List.{List}
 use native.Mathlib.Omega.{arith}
 use native.Mathlib.Decide.{ℕ_discrete}
-use native.Mathlib.Numerals.{add-one}
 use lib.ListN.{length, get_or, set, replicate}
 use lib.Seq.{get_or-set_same, get_or-set_other}
 use Rattle.base.proofs.Lists.{get_d-blank}
 use Rattle.press_spec.specs.Links.{Link, leaf, join}
-use Rattle.press_nodes.specs.Tables.{Sound}
-use Rattle.press_users.specs.declared.Side.{Side}
-use Rattle.press_users.specs.declared.Side.TheVariants.{Left, Right}
+use Rattle.press_nodes.specs.declared.fate.Side.{Side}
+use Rattle.press_nodes.specs.declared.fate.Side.TheVariants.{Left, Right}
 use Rattle.press_users.specs.Chains.{parent_on, Chaining}
 
 module _ (p : ℕ → ℕ) where

@@ -1,8 +1,8 @@
 -- Chains of steps that have one parent on one side. A chain is kept in two tables of node numbers, each one more than the number, so that 0 is none.
 use Rattle.std.specs.Prelude.{ℕ, suc, ◌-◌, ◌≤◌, ◌<◌, ◌≡◌, List, get_or}
 use Rattle.press_spec.specs.Links.{Link, leaf, join, link_at}
-use Rattle.press_users.specs.declared.Side.{Side}
-use Rattle.press_users.specs.declared.Side.TheVariants.{Left, Right}
+use Rattle.press_nodes.specs.declared.fate.Side.{Side}
+use Rattle.press_nodes.specs.declared.fate.Side.TheVariants.{Left, Right}
 
 -- one more than the parent on a side; a leaf has none
 unfoldable pub parent_on : Side → Link → ℕ

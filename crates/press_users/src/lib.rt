@@ -6,18 +6,13 @@ ghost use Rattle.press_spec.specs.Links.{link_at};
 ghost use Rattle.press_nodes.specs.Tables.{links_in, Links};
 ghost use Rattle.press_users.specs.Chains.{parent_on, Chain};
 
-use press_nodes::link::Link;
+use press_nodes::fate::Side;
 use press_nodes::link;
+use press_nodes::link::Link;
 use sheet::NodeNo;
 
-#[derive(Clone, Copy)]
-pub enum Side {
-    Left,
-    Right,
-}
-
 // The parent that node n has on a side: a given has none.
-fn parent_on(links: &[u64], side: Side, n: NodeNo) -> Option<NodeNo>
+fn parent_on(links: &[Link], side: Side, n: NodeNo) -> Option<NodeNo>
     requires links { Links links.now }
     requires n_in_bounds { n.0 < length links.now }
     ensures some { IfSome result (λ q. (parent_on side (link_at (links_in links.now) n.0) ≡ suc q.0) × (q.0 < n.0)) }
@@ -33,7 +28,7 @@ fn parent_on(links: &[u64], side: Side, n: NodeNo) -> Option<NodeNo>
 }
 
 // Node n goes to the front of its parent's chain.
-fn chain_turn(links: &[u64], side: Side, n: NodeNo, heads: &mut [u16], nexts: &mut [u16])
+fn chain_turn(links: &[Link], side: Side, n: NodeNo, heads: &mut [u16], nexts: &mut [u16])
     requires links { Links links.now }
     requires heads_len { (length heads.old ≡ length links.now) × (length nexts.old ≡ length links.now) × (n.0 < length links.now) }
     requires chain { Chain side (links_in links.now) n.0 heads.old nexts.old }
@@ -49,7 +44,7 @@ fn chain_turn(links: &[u64], side: Side, n: NodeNo, heads: &mut [u16], nexts: &m
 }
 
 // For each node one more than the newest step that names it on this side, and for each step one more than the next older one that names the same node.
-pub fn chain(links: &[u64], side: Side, heads: &mut [u16], nexts: &mut [u16])
+pub fn chain(links: &[Link], side: Side, heads: &mut [u16], nexts: &mut [u16])
     requires links { Links links.now }
     requires heads_len { (length heads.old ≡ length links.now) × (length nexts.old ≡ length links.now) }
     ensures { Chain side (links_in links.now) (length links.now) heads.new nexts.new }

@@ -1,3 +1,5 @@
+use mathlib.Core.Path.{sym, ◌∙◌}
+use borrow.Author.Tests.{eqb-true, eqb-false}
 use native.Mathlib.Omega.{arith}
 use Rattle.press_nodes.proofs.Found.{found-leaf}
 use Rattle.press_last.proofs.Joined.{joined-inside, found-joined}
@@ -11,10 +13,10 @@ pub drop_count-of_left-requires : goal.drop_count-of_left-requires
 drop_count-of_left-requires c =
     (joined-inside (found-joined _ _ _ _ _ _ _ c.requires.links c.requires.k_in_bounds.0 c.requires.k_in_bounds.1 c.link_at.ensures c.in-Join.is)).0
 
-pub returns-then-left-right : goal.returns-then-left-right
-returns-then-left-right c =
+pub returns-then-eq : goal.returns-then-eq
+returns-then-eq c =
     dropped-same (found-joined _ _ _ _ _ _ _ c.requires.links c.requires.k_in_bounds.0 c.requires.k_in_bounds.1 c.link_at.ensures c.in-Join.is)
-    _ c.if-left-right.true c.drop_count-of_left.ensures
+    _ (eqb-true _ _ (sym c.eq.ensures ∙ c.if-eq.true)) c.drop_count-of_left.ensures
 
 pub drop_count-requires : goal.drop_count-requires
 drop_count-requires c =
@@ -28,4 +30,4 @@ overflow_add-result c = let last = c.args.last.now in
 pub returns : goal.returns
 returns c =
     dropped-two (found-joined _ _ _ _ _ _ _ c.requires.links c.requires.k_in_bounds.0 c.requires.k_in_bounds.1 c.link_at.ensures c.in-Join.is)
-    _ _ c.if-left-right.false c.drop_count-of_left.ensures c.drop_count.ensures
+    _ _ (eqb-false _ _ (sym c.eq.ensures ∙ c.if-eq.false)) c.drop_count-of_left.ensures c.drop_count.ensures

@@ -1,4 +1,3 @@
-use Rattle.std.proofs.Common.{◌≡◌, length}
 use Rattle.press_nodes.specs.Tables.{links_in}
 use Rattle.press_users.specs.Chains.{Chain}
 use Rattle.press_users.proofs.chain.Given as goal

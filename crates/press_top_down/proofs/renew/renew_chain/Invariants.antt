@@ -2,7 +2,7 @@ use mathlib.Core.Path.{◌≡◌}
 use lib.ListN.{length}
 use Rattle.press_spec.specs.Links.{link_at}
 use Rattle.press_nodes.specs.Tables.{links_in}
-use Rattle.press_users.specs.declared.Side.{Side}
+use Rattle.press_nodes.specs.declared.fate.Side.{Side}
 use Rattle.press_users.specs.Chains.{parent_on, Chain}
 use Rattle.press_scores.specs.Rows.{score_words}
 use Rattle.press_top_down.specs.Scores.{score_in}
