@@ -10,7 +10,7 @@ import argparse, pathlib, shutil, subprocess, sys, tempfile
 ROOT = pathlib.Path(__file__).resolve().parent.parent
 BATCH = 25
 EDITIONS = ["narrow", "wide"]
-LOWERINGS = {"nothing": "Nothing", "units": "(Of Units)", "univalents": "(Of Univalents)"}
+LOWERINGS = {"nothing": "None", "units": "(Some Units)", "univalents": "(Some Univalents)"}
 ORDERS = {"bottom-up": 0, "top-down": 1}
 
 
@@ -71,7 +71,7 @@ def case(block):
     return f"({replayed} && traced {edition} {sheet} {rules} {slots} {numbers(trace(block[2:]))})"
 
 
-HEAD = """use Rattle.std.specs.Prelude.{ℕ, zero, suc, ◌/◌, Bool, true, ◌&&◌, List, [], ◌∷◌, ◌++◌, T, length}
+HEAD = """use Rattle.std.specs.Prelude.{ℕ, zero, suc, ◌/◌, Bool, true, ◌&&◌, List, [], ◌∷◌, ◌++◌, T, None, Some, length}
 use Rattle.base.specs.Bytes.{bytes, flat}
 use Rattle.sheet.specs.Editions.{record_bytes}
 use Rattle.sheet.specs.declared.edition.Edition.{Edition}
@@ -83,10 +83,8 @@ use Rattle.replay_spec.specs.Replay as Replay
 use Rattle.replay_spec.specs.Replay.{start}
 use Rattle.press_spec.specs.declared.Recycling.{Recycling}
 use Rattle.press_spec.specs.declared.Recycling.TheVariants.{Reset, Intersection}
-use Rattle.press_spec.specs.declared.Lowering.{Lowering}
-use Rattle.press_spec.specs.declared.Lowering.TheVariants.{Nothing, Of}
 use Rattle.press_spec.specs.declared.Lowerable.TheVariants.{Units, Univalents}
-use Rattle.press_spec.specs.Plans.{plan}
+use Rattle.press_spec.specs.Plans.{Lowering, plan}
 use Rattle.press_spec.specs.Press as Press
 use Rattle.demands.specs.Cases as Cases
 use Rattle.demands.specs.Cases.{press_is, replay_is, junk, dirty, clean, slot_numbers, equal}

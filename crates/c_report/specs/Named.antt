@@ -1,13 +1,11 @@
 -- What a caller names by numbers.
-use Rattle.std.specs.Prelude.{ℕ, Bool, cond, eqb, ltb}
+use Rattle.std.specs.Prelude.{ℕ, Bool, cond, eqb, ltb, None, Some}
 use Rattle.sheet.specs.declared.edition.Edition.{Edition}
 use Rattle.sheet.specs.declared.edition.Edition.TheVariants.{Narrow, Wide}
 use Rattle.press_spec.specs.declared.Recycling.{Recycling}
 use Rattle.press_spec.specs.declared.Recycling.TheVariants.{Reset, Intersection}
-use Rattle.press_spec.specs.declared.Lowering.{Lowering}
-use Rattle.press_spec.specs.declared.Lowering.TheVariants.{Nothing, Of}
 use Rattle.press_spec.specs.declared.Lowerable.TheVariants.{Units, Univalents}
-use Rattle.press_spec.specs.Plans.{plan}
+use Rattle.press_spec.specs.Plans.{plan, Lowering}
 use Rattle.c_report.specs.declared.named.Naming.{Naming}
 use Rattle.c_report.specs.declared.named.Naming.TheVariants.{Named, Unnamed}
 
@@ -36,7 +34,7 @@ unfoldable pub recycling_of : ℕ → Recycling
 recycling_of n = cond (eqb n 0) Reset Intersection
 
 unfoldable pub lowering_of : ℕ → Lowering
-lowering_of n = cond (eqb n 0) Nothing (cond (eqb n 1) (Of Units) (Of Univalents))
+lowering_of n = cond (eqb n 0) None (cond (eqb n 1) (Some Units) (Some Univalents))
 
 -- the edition is looked at first, then the recycling, then the lowering
 unfoldable pub plan_of : ℕ → ℕ → ℕ → Naming

@@ -10,9 +10,8 @@ use Rattle.sheet.specs.Fields.{sheet_bytes, rule_lines, rule_line}
 use Rattle.replay_spec.specs.Slots.{Slot}
 use Rattle.replay_spec.specs.Replay as Replay
 use Rattle.press_spec.specs.declared.Recycling.{Recycling}
-use Rattle.press_spec.specs.declared.Lowering.{Lowering}
 use Rattle.press_spec.specs.declared.Plan.{Plan}
-use Rattle.press_spec.specs.Plans.{plan}
+use Rattle.press_spec.specs.Plans.{plan, Lowering}
 use Rattle.press_spec.specs.Press as Press
 use Rattle.press_spec.specs.Press.{Call, Report}
 use Rattle.demands.specs.Demands.{Bytes}

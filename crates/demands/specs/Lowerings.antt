@@ -1,11 +1,10 @@
 -- Sheets that tell lowering the units from passes that look like it. Made by the second program: `reference tables`.
-use Rattle.std.specs.Prelude.{◌+◌, ◌^◌, List, [], ◌∷◌, T}
+use Rattle.std.specs.Prelude.{◌+◌, ◌^◌, List, [], ◌∷◌, T, Some}
 use Rattle.clause.specs.Clauses.{Literals, literals}
 use Rattle.sheet.specs.declared.edition.Edition.TheVariants.{Narrow, Wide}
 use Rattle.sheet.specs.Records.{given, step, Record, node, drop}
 use Rattle.sheet.specs.Fields.{sheet_bytes}
 use Rattle.press_spec.specs.declared.Recycling.TheVariants.{Reset, Intersection}
-use Rattle.press_spec.specs.declared.Lowering.TheVariants.{Of}
 use Rattle.press_spec.specs.declared.Lowerable.TheVariants.{Units}
 use Rattle.press_spec.specs.declared.Order.TheVariants.{BottomUp, TopDown}
 use Rattle.press_spec.specs.Plans.{plan}
@@ -370,16 +369,16 @@ twice_again_reset_lowered =
 
 unfoldable pub lowerings : List Case
 lowerings =
-    accepts (plan Narrow Intersection (Of Units)) everywhere_rules everywhere (0 ∷ 0 ∷ 13 ∷ 7 ∷ 3 ∷ 4 ∷ 4 ∷ []) BottomUp (sheet_bytes Narrow everywhere_lowered) (1 ∷ 1 ∷ 1 ∷ 1 ∷ [])
-    ∷ accepts (plan Narrow Intersection (Of Units)) within_rules within (0 ∷ 0 ∷ 13 ∷ 7 ∷ 3 ∷ 5 ∷ 4 ∷ []) BottomUp (sheet_bytes Narrow within_lowered) (1 ∷ 1 ∷ 1 ∷ 1 ∷ [])
-    ∷ accepts (plan Narrow Intersection (Of Units)) opposites_rules opposites (0 ∷ 0 ∷ 23 ∷ 12 ∷ 6 ∷ 4 ∷ 6 ∷ []) BottomUp (sheet_bytes Narrow opposites_lowered) (1 ∷ 1 ∷ 1 ∷ 1 ∷ 1 ∷ 1 ∷ [])
-    ∷ accepts (plan Narrow Intersection (Of Units)) again_rules again (0 ∷ 0 ∷ 25 ∷ 13 ∷ 6 ∷ 6 ∷ 7 ∷ []) TopDown (sheet_bytes Narrow again_lowered) (1 ∷ 1 ∷ 1 ∷ 1 ∷ 1 ∷ 1 ∷ 1 ∷ [])
-    ∷ accepts (plan Narrow Intersection (Of Units)) stays_rules stays (0 ∷ 0 ∷ 17 ∷ 9 ∷ 4 ∷ 5 ∷ 5 ∷ []) BottomUp (sheet_bytes Narrow stays_lowered) (0 ∷ 1 ∷ 1 ∷ 1 ∷ 1 ∷ 1 ∷ [])
-    ∷ accepts (plan Narrow Intersection (Of Units)) once_rules once (0 ∷ 0 ∷ 9 ∷ 5 ∷ 2 ∷ 3 ∷ 3 ∷ []) BottomUp (sheet_bytes Narrow once_lowered) (1 ∷ 1 ∷ 1 ∷ [])
-    ∷ accepts (plan Narrow Intersection (Of Units)) merged_rules merged (0 ∷ 0 ∷ 9 ∷ 5 ∷ 2 ∷ 3 ∷ 3 ∷ []) BottomUp (sheet_bytes Narrow merged_lowered) (1 ∷ 0 ∷ 0 ∷ 1 ∷ 1 ∷ [])
-    ∷ accepts (plan Narrow Intersection (Of Units)) fewer_rules fewer (0 ∷ 4 ∷ 9 ∷ 5 ∷ 2 ∷ 4 ∷ 3 ∷ []) BottomUp (sheet_bytes Narrow fewer_lowered) (1 ∷ 0 ∷ 0 ∷ 1 ∷ 1 ∷ [])
-    ∷ accepts (plan Wide Intersection (Of Units)) high_everywhere_rules high_everywhere (0 ∷ 0 ∷ 13 ∷ 7 ∷ 3 ∷ 4 ∷ 4 ∷ []) BottomUp (sheet_bytes Wide high_everywhere_lowered) (1 ∷ 1 ∷ 1 ∷ 1 ∷ [])
-    ∷ accepts (plan Narrow Reset (Of Units)) twice_again_rules twice_again (1 ∷ 1 ∷ 7 ∷ 4 ∷ 2 ∷ 3 ∷ 2 ∷ []) BottomUp (sheet_bytes Narrow twice_again_reset_lowered) (1 ∷ 1 ∷ [])
+    accepts (plan Narrow Intersection (Some Units)) everywhere_rules everywhere (0 ∷ 0 ∷ 13 ∷ 7 ∷ 3 ∷ 4 ∷ 4 ∷ []) BottomUp (sheet_bytes Narrow everywhere_lowered) (1 ∷ 1 ∷ 1 ∷ 1 ∷ [])
+    ∷ accepts (plan Narrow Intersection (Some Units)) within_rules within (0 ∷ 0 ∷ 13 ∷ 7 ∷ 3 ∷ 5 ∷ 4 ∷ []) BottomUp (sheet_bytes Narrow within_lowered) (1 ∷ 1 ∷ 1 ∷ 1 ∷ [])
+    ∷ accepts (plan Narrow Intersection (Some Units)) opposites_rules opposites (0 ∷ 0 ∷ 23 ∷ 12 ∷ 6 ∷ 4 ∷ 6 ∷ []) BottomUp (sheet_bytes Narrow opposites_lowered) (1 ∷ 1 ∷ 1 ∷ 1 ∷ 1 ∷ 1 ∷ [])
+    ∷ accepts (plan Narrow Intersection (Some Units)) again_rules again (0 ∷ 0 ∷ 25 ∷ 13 ∷ 6 ∷ 6 ∷ 7 ∷ []) TopDown (sheet_bytes Narrow again_lowered) (1 ∷ 1 ∷ 1 ∷ 1 ∷ 1 ∷ 1 ∷ 1 ∷ [])
+    ∷ accepts (plan Narrow Intersection (Some Units)) stays_rules stays (0 ∷ 0 ∷ 17 ∷ 9 ∷ 4 ∷ 5 ∷ 5 ∷ []) BottomUp (sheet_bytes Narrow stays_lowered) (0 ∷ 1 ∷ 1 ∷ 1 ∷ 1 ∷ 1 ∷ [])
+    ∷ accepts (plan Narrow Intersection (Some Units)) once_rules once (0 ∷ 0 ∷ 9 ∷ 5 ∷ 2 ∷ 3 ∷ 3 ∷ []) BottomUp (sheet_bytes Narrow once_lowered) (1 ∷ 1 ∷ 1 ∷ [])
+    ∷ accepts (plan Narrow Intersection (Some Units)) merged_rules merged (0 ∷ 0 ∷ 9 ∷ 5 ∷ 2 ∷ 3 ∷ 3 ∷ []) BottomUp (sheet_bytes Narrow merged_lowered) (1 ∷ 0 ∷ 0 ∷ 1 ∷ 1 ∷ [])
+    ∷ accepts (plan Narrow Intersection (Some Units)) fewer_rules fewer (0 ∷ 4 ∷ 9 ∷ 5 ∷ 2 ∷ 4 ∷ 3 ∷ []) BottomUp (sheet_bytes Narrow fewer_lowered) (1 ∷ 0 ∷ 0 ∷ 1 ∷ 1 ∷ [])
+    ∷ accepts (plan Wide Intersection (Some Units)) high_everywhere_rules high_everywhere (0 ∷ 0 ∷ 13 ∷ 7 ∷ 3 ∷ 4 ∷ 4 ∷ []) BottomUp (sheet_bytes Wide high_everywhere_lowered) (1 ∷ 1 ∷ 1 ∷ 1 ∷ [])
+    ∷ accepts (plan Narrow Reset (Some Units)) twice_again_rules twice_again (1 ∷ 1 ∷ 7 ∷ 4 ∷ 2 ∷ 3 ∷ 2 ∷ []) BottomUp (sheet_bytes Narrow twice_again_reset_lowered) (1 ∷ 1 ∷ [])
     ∷ []
 
 abbrev pub Lowerings : Type 0

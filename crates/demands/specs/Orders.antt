@@ -1,12 +1,11 @@
 -- Sheets that tell the two orders apart, the choice between them, and the top-down order from orders that look like it. Made by the
 -- second program: `reference tables`.
-use Rattle.std.specs.Prelude.{◌^◌, List, [], ◌∷◌, T}
+use Rattle.std.specs.Prelude.{◌^◌, List, [], ◌∷◌, T, None}
 use Rattle.clause.specs.Clauses.{Literals, literals}
 use Rattle.sheet.specs.declared.edition.Edition.TheVariants.{Narrow, Wide}
 use Rattle.sheet.specs.Records.{given, step, Record, node, drop}
 use Rattle.sheet.specs.Fields.{sheet_bytes}
 use Rattle.press_spec.specs.declared.Recycling.TheVariants.{Reset, Intersection}
-use Rattle.press_spec.specs.declared.Lowering.TheVariants.{Nothing}
 use Rattle.press_spec.specs.declared.Order.TheVariants.{BottomUp, TopDown}
 use Rattle.press_spec.specs.Plans.{plan}
 use Rattle.demands.specs.Cases.{Case, accepts, all_right}
@@ -256,13 +255,13 @@ named_twice_reset =
 
 unfoldable pub orders : List Case
 orders =
-    accepts (plan Narrow Intersection Nothing) left_givens_rules left_givens (0 ∷ 0 ∷ 17 ∷ 9 ∷ 4 ∷ 3 ∷ 5 ∷ []) TopDown (sheet_bytes Narrow left_givens_intersected) (1 ∷ 1 ∷ 1 ∷ 1 ∷ 1 ∷ [])
-    ∷ accepts (plan Wide Intersection Nothing) high_left_givens_rules high_left_givens (0 ∷ 0 ∷ 17 ∷ 9 ∷ 4 ∷ 3 ∷ 5 ∷ []) TopDown (sheet_bytes Wide high_left_givens_intersected) (1 ∷ 1 ∷ 1 ∷ 1 ∷ 1 ∷ [])
-    ∷ accepts (plan Narrow Intersection Nothing) equal_peaks_rules equal_peaks (0 ∷ 0 ∷ 5 ∷ 3 ∷ 1 ∷ 3 ∷ 2 ∷ []) BottomUp (sheet_bytes Narrow equal_peaks_intersected) (1 ∷ 1 ∷ [])
-    ∷ accepts (plan Narrow Intersection Nothing) early_given_rules early_given (0 ∷ 0 ∷ 9 ∷ 5 ∷ 2 ∷ 3 ∷ 3 ∷ []) BottomUp (sheet_bytes Narrow early_given_intersected) (1 ∷ 1 ∷ 1 ∷ [])
-    ∷ accepts (plan Narrow Intersection Nothing) still_needed_rules still_needed (0 ∷ 0 ∷ 17 ∷ 9 ∷ 5 ∷ 4 ∷ 4 ∷ []) TopDown (sheet_bytes Narrow still_needed_intersected) (1 ∷ 1 ∷ 1 ∷ 1 ∷ [])
-    ∷ accepts (plan Narrow Intersection Nothing) two_dropped_rules two_dropped (0 ∷ 0 ∷ 21 ∷ 11 ∷ 6 ∷ 5 ∷ 5 ∷ []) TopDown (sheet_bytes Narrow two_dropped_intersected) (1 ∷ 1 ∷ 1 ∷ 1 ∷ 1 ∷ [])
-    ∷ accepts (plan Narrow Reset Nothing) named_twice_rules named_twice (1 ∷ 1 ∷ 17 ∷ 9 ∷ 5 ∷ 4 ∷ 4 ∷ []) TopDown (sheet_bytes Narrow named_twice_reset) (1 ∷ 1 ∷ 1 ∷ 1 ∷ [])
+    accepts (plan Narrow Intersection None) left_givens_rules left_givens (0 ∷ 0 ∷ 17 ∷ 9 ∷ 4 ∷ 3 ∷ 5 ∷ []) TopDown (sheet_bytes Narrow left_givens_intersected) (1 ∷ 1 ∷ 1 ∷ 1 ∷ 1 ∷ [])
+    ∷ accepts (plan Wide Intersection None) high_left_givens_rules high_left_givens (0 ∷ 0 ∷ 17 ∷ 9 ∷ 4 ∷ 3 ∷ 5 ∷ []) TopDown (sheet_bytes Wide high_left_givens_intersected) (1 ∷ 1 ∷ 1 ∷ 1 ∷ 1 ∷ [])
+    ∷ accepts (plan Narrow Intersection None) equal_peaks_rules equal_peaks (0 ∷ 0 ∷ 5 ∷ 3 ∷ 1 ∷ 3 ∷ 2 ∷ []) BottomUp (sheet_bytes Narrow equal_peaks_intersected) (1 ∷ 1 ∷ [])
+    ∷ accepts (plan Narrow Intersection None) early_given_rules early_given (0 ∷ 0 ∷ 9 ∷ 5 ∷ 2 ∷ 3 ∷ 3 ∷ []) BottomUp (sheet_bytes Narrow early_given_intersected) (1 ∷ 1 ∷ 1 ∷ [])
+    ∷ accepts (plan Narrow Intersection None) still_needed_rules still_needed (0 ∷ 0 ∷ 17 ∷ 9 ∷ 5 ∷ 4 ∷ 4 ∷ []) TopDown (sheet_bytes Narrow still_needed_intersected) (1 ∷ 1 ∷ 1 ∷ 1 ∷ [])
+    ∷ accepts (plan Narrow Intersection None) two_dropped_rules two_dropped (0 ∷ 0 ∷ 21 ∷ 11 ∷ 6 ∷ 5 ∷ 5 ∷ []) TopDown (sheet_bytes Narrow two_dropped_intersected) (1 ∷ 1 ∷ 1 ∷ 1 ∷ 1 ∷ [])
+    ∷ accepts (plan Narrow Reset None) named_twice_rules named_twice (1 ∷ 1 ∷ 17 ∷ 9 ∷ 5 ∷ 4 ∷ 4 ∷ []) TopDown (sheet_bytes Narrow named_twice_reset) (1 ∷ 1 ∷ 1 ∷ 1 ∷ [])
     ∷ []
 
 abbrev pub Orders : Type 0

@@ -1,5 +1,6 @@
 -- What each pass makes of a proper sheet. A statement that names no edition and no choice holds for all of them.
-use Rattle.std.specs.Prelude.{ℕ, suc, ◌<◌, ◌≤◌, ◌≡◌, true, false, ◌⊎◌, List, ◌∷◌, ◌++◌, length, get_or}
+use Rattle.press_spec.specs.Plans.{Lowering}
+use Rattle.std.specs.Prelude.{ℕ, suc, ◌<◌, ◌≤◌, ◌≡◌, true, false, ◌⊎◌, List, ◌∷◌, ◌++◌, length, get_or, None}
 use Rattle.clause.specs.Clauses.{Literal, Literals, none, holds}
 use Rattle.sheet.specs.declared.edition.Edition.{Edition}
 use Rattle.sheet.specs.Editions.{variables, press_records}
@@ -9,8 +10,6 @@ use Rattle.sheet.specs.Proper.{conclusion_of, Proper}
 use Rattle.press_spec.specs.declared.Recycling.{Recycling}
 use Rattle.press_spec.specs.declared.Recycling.TheVariants.{Intersection}
 use Rattle.press_spec.specs.declared.Lowerable.{Lowerable}
-use Rattle.press_spec.specs.declared.Lowering.{Lowering}
-use Rattle.press_spec.specs.declared.Lowering.TheVariants.{Nothing}
 use Rattle.press_spec.specs.declared.Order.{Order}
 use Rattle.press_spec.specs.declared.Plan.{Plan}
 use Rattle.press_spec.specs.Plans as Plans
@@ -88,7 +87,7 @@ abbrev pub NoMoreSteps : Type 0
 NoMoreSteps =
     (e : Edition) (how : Recycling) (low : Lowering) (sheet rules : List ℕ) (rs : List Record)
     → Proper e (press_records e) false rules sheet rs
-    → steps_of (pressed (Plans.plan e how low) (nodes_of rs)) ≤ steps_of (pressed (Plans.plan e how Nothing) (nodes_of rs))
+    → steps_of (pressed (Plans.plan e how low) (nodes_of rs)) ≤ steps_of (pressed (Plans.plan e how None) (nodes_of rs))
 
 -- what step 4 leaves
 abbrev pub four : Plan → List Record → Ended

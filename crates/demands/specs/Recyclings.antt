@@ -1,12 +1,11 @@
 -- Sheets that the recyclings press apart, and that tell the intersection from passes that look like it. Made by the second program:
 -- `reference tables`.
-use Rattle.std.specs.Prelude.{List, [], ◌∷◌, T}
+use Rattle.std.specs.Prelude.{List, [], ◌∷◌, T, None}
 use Rattle.clause.specs.Clauses.{Literals, literals}
 use Rattle.sheet.specs.declared.edition.Edition.TheVariants.{Narrow}
 use Rattle.sheet.specs.Records.{given, step, Record, node, drop}
 use Rattle.sheet.specs.Fields.{sheet_bytes}
 use Rattle.press_spec.specs.declared.Recycling.TheVariants.{Reset, Intersection}
-use Rattle.press_spec.specs.declared.Lowering.TheVariants.{Nothing}
 use Rattle.press_spec.specs.declared.Order.TheVariants.{BottomUp}
 use Rattle.press_spec.specs.Plans.{plan}
 use Rattle.demands.specs.Cases.{Case, accepts, all_right}
@@ -303,18 +302,18 @@ twice_after_intersected =
 
 unfoldable pub recyclings : List Case
 recyclings =
-    accepts (plan Narrow Reset Nothing) all_allow_rules all_allow (0 ∷ 0 ∷ 15 ∷ 8 ∷ 4 ∷ 4 ∷ 4 ∷ []) BottomUp (sheet_bytes Narrow all_allow_reset) (1 ∷ 1 ∷ 1 ∷ 1 ∷ [])
-    ∷ accepts (plan Narrow Intersection Nothing) all_allow_rules all_allow (0 ∷ 0 ∷ 13 ∷ 7 ∷ 3 ∷ 4 ∷ 4 ∷ []) BottomUp (sheet_bytes Narrow all_allow_intersected) (1 ∷ 1 ∷ 1 ∷ 1 ∷ [])
-    ∷ accepts (plan Narrow Reset Nothing) reset_shorter_rules reset_shorter (0 ∷ 4 ∷ 5 ∷ 3 ∷ 1 ∷ 3 ∷ 2 ∷ []) BottomUp (sheet_bytes Narrow reset_shorter_reset) (0 ∷ 1 ∷ 0 ∷ 0 ∷ 1 ∷ 0 ∷ [])
-    ∷ accepts (plan Narrow Intersection Nothing) reset_shorter_rules reset_shorter (0 ∷ 4 ∷ 9 ∷ 5 ∷ 2 ∷ 4 ∷ 3 ∷ []) BottomUp (sheet_bytes Narrow reset_shorter_intersected) (1 ∷ 1 ∷ 1 ∷ 0 ∷ 0 ∷ 0 ∷ [])
-    ∷ accepts (plan Narrow Reset Nothing) keeps_common_rules keeps_common (0 ∷ 4 ∷ 19 ∷ 10 ∷ 5 ∷ 4 ∷ 5 ∷ []) BottomUp (sheet_bytes Narrow keeps_common_reset) (1 ∷ 1 ∷ 1 ∷ 1 ∷ 1 ∷ [])
-    ∷ accepts (plan Narrow Intersection Nothing) keeps_common_rules keeps_common (0 ∷ 4 ∷ 15 ∷ 8 ∷ 4 ∷ 4 ∷ 4 ∷ []) BottomUp (sheet_bytes Narrow keeps_common_intersected) (1 ∷ 0 ∷ 1 ∷ 1 ∷ 1 ∷ [])
-    ∷ accepts (plan Narrow Reset Nothing) cut_use_rules cut_use (0 ∷ 0 ∷ 15 ∷ 8 ∷ 4 ∷ 4 ∷ 4 ∷ []) BottomUp (sheet_bytes Narrow cut_use_reset) (1 ∷ 1 ∷ 1 ∷ 1 ∷ [])
-    ∷ accepts (plan Narrow Intersection Nothing) cut_use_rules cut_use (0 ∷ 0 ∷ 9 ∷ 5 ∷ 2 ∷ 4 ∷ 3 ∷ []) BottomUp (sheet_bytes Narrow cut_use_intersected) (1 ∷ 0 ∷ 1 ∷ 1 ∷ [])
-    ∷ accepts (plan Narrow Reset Nothing) unreached_use_rules unreached_use (0 ∷ 0 ∷ 15 ∷ 8 ∷ 4 ∷ 4 ∷ 4 ∷ []) BottomUp (sheet_bytes Narrow unreached_use_reset) (1 ∷ 1 ∷ 1 ∷ 1 ∷ [])
-    ∷ accepts (plan Narrow Intersection Nothing) unreached_use_rules unreached_use (0 ∷ 0 ∷ 9 ∷ 5 ∷ 2 ∷ 4 ∷ 3 ∷ []) BottomUp (sheet_bytes Narrow unreached_use_intersected) (1 ∷ 1 ∷ 0 ∷ 1 ∷ [])
-    ∷ accepts (plan Narrow Reset Nothing) twice_after_rules twice_after (5 ∷ 3 ∷ 9 ∷ 5 ∷ 3 ∷ 3 ∷ 2 ∷ []) BottomUp (sheet_bytes Narrow twice_after_reset) (1 ∷ 1 ∷ [])
-    ∷ accepts (plan Narrow Intersection Nothing) twice_after_rules twice_after (4 ∷ 3 ∷ 1 ∷ 1 ∷ 0 ∷ 1 ∷ 1 ∷ []) BottomUp (sheet_bytes Narrow twice_after_intersected) (1 ∷ 0 ∷ [])
+    accepts (plan Narrow Reset None) all_allow_rules all_allow (0 ∷ 0 ∷ 15 ∷ 8 ∷ 4 ∷ 4 ∷ 4 ∷ []) BottomUp (sheet_bytes Narrow all_allow_reset) (1 ∷ 1 ∷ 1 ∷ 1 ∷ [])
+    ∷ accepts (plan Narrow Intersection None) all_allow_rules all_allow (0 ∷ 0 ∷ 13 ∷ 7 ∷ 3 ∷ 4 ∷ 4 ∷ []) BottomUp (sheet_bytes Narrow all_allow_intersected) (1 ∷ 1 ∷ 1 ∷ 1 ∷ [])
+    ∷ accepts (plan Narrow Reset None) reset_shorter_rules reset_shorter (0 ∷ 4 ∷ 5 ∷ 3 ∷ 1 ∷ 3 ∷ 2 ∷ []) BottomUp (sheet_bytes Narrow reset_shorter_reset) (0 ∷ 1 ∷ 0 ∷ 0 ∷ 1 ∷ 0 ∷ [])
+    ∷ accepts (plan Narrow Intersection None) reset_shorter_rules reset_shorter (0 ∷ 4 ∷ 9 ∷ 5 ∷ 2 ∷ 4 ∷ 3 ∷ []) BottomUp (sheet_bytes Narrow reset_shorter_intersected) (1 ∷ 1 ∷ 1 ∷ 0 ∷ 0 ∷ 0 ∷ [])
+    ∷ accepts (plan Narrow Reset None) keeps_common_rules keeps_common (0 ∷ 4 ∷ 19 ∷ 10 ∷ 5 ∷ 4 ∷ 5 ∷ []) BottomUp (sheet_bytes Narrow keeps_common_reset) (1 ∷ 1 ∷ 1 ∷ 1 ∷ 1 ∷ [])
+    ∷ accepts (plan Narrow Intersection None) keeps_common_rules keeps_common (0 ∷ 4 ∷ 15 ∷ 8 ∷ 4 ∷ 4 ∷ 4 ∷ []) BottomUp (sheet_bytes Narrow keeps_common_intersected) (1 ∷ 0 ∷ 1 ∷ 1 ∷ 1 ∷ [])
+    ∷ accepts (plan Narrow Reset None) cut_use_rules cut_use (0 ∷ 0 ∷ 15 ∷ 8 ∷ 4 ∷ 4 ∷ 4 ∷ []) BottomUp (sheet_bytes Narrow cut_use_reset) (1 ∷ 1 ∷ 1 ∷ 1 ∷ [])
+    ∷ accepts (plan Narrow Intersection None) cut_use_rules cut_use (0 ∷ 0 ∷ 9 ∷ 5 ∷ 2 ∷ 4 ∷ 3 ∷ []) BottomUp (sheet_bytes Narrow cut_use_intersected) (1 ∷ 0 ∷ 1 ∷ 1 ∷ [])
+    ∷ accepts (plan Narrow Reset None) unreached_use_rules unreached_use (0 ∷ 0 ∷ 15 ∷ 8 ∷ 4 ∷ 4 ∷ 4 ∷ []) BottomUp (sheet_bytes Narrow unreached_use_reset) (1 ∷ 1 ∷ 1 ∷ 1 ∷ [])
+    ∷ accepts (plan Narrow Intersection None) unreached_use_rules unreached_use (0 ∷ 0 ∷ 9 ∷ 5 ∷ 2 ∷ 4 ∷ 3 ∷ []) BottomUp (sheet_bytes Narrow unreached_use_intersected) (1 ∷ 1 ∷ 0 ∷ 1 ∷ [])
+    ∷ accepts (plan Narrow Reset None) twice_after_rules twice_after (5 ∷ 3 ∷ 9 ∷ 5 ∷ 3 ∷ 3 ∷ 2 ∷ []) BottomUp (sheet_bytes Narrow twice_after_reset) (1 ∷ 1 ∷ [])
+    ∷ accepts (plan Narrow Intersection None) twice_after_rules twice_after (4 ∷ 3 ∷ 1 ∷ 1 ∷ 0 ∷ 1 ∷ 1 ∷ []) BottomUp (sheet_bytes Narrow twice_after_intersected) (1 ∷ 0 ∷ [])
     ∷ []
 
 abbrev pub Recyclings : Type 0

@@ -1,12 +1,11 @@
 -- Sheets that tell lowering the univalents from lowering the units and from passes that look like it. Made by the second program:
 -- `reference tables`.
-use Rattle.std.specs.Prelude.{◌+◌, ◌^◌, List, [], ◌∷◌, T}
+use Rattle.std.specs.Prelude.{◌+◌, ◌^◌, List, [], ◌∷◌, T, Some}
 use Rattle.clause.specs.Clauses.{Literals, literals}
 use Rattle.sheet.specs.declared.edition.Edition.TheVariants.{Narrow, Wide}
 use Rattle.sheet.specs.Records.{given, step, Record, node, drop}
 use Rattle.sheet.specs.Fields.{sheet_bytes}
 use Rattle.press_spec.specs.declared.Recycling.TheVariants.{Intersection}
-use Rattle.press_spec.specs.declared.Lowering.TheVariants.{Of}
 use Rattle.press_spec.specs.declared.Lowerable.TheVariants.{Univalents}
 use Rattle.press_spec.specs.declared.Order.TheVariants.{BottomUp}
 use Rattle.press_spec.specs.Plans.{plan}
@@ -295,15 +294,15 @@ high_after_univalents =
 
 unfoldable pub univalents : List Case
 univalents =
-    accepts (plan Narrow Intersection (Of Univalents)) opposites_rules opposites (0 ∷ 0 ∷ 23 ∷ 12 ∷ 6 ∷ 6 ∷ 6 ∷ []) BottomUp (sheet_bytes Narrow opposites_univalents) (1 ∷ 1 ∷ 1 ∷ 1 ∷ 1 ∷ 1 ∷ [])
-    ∷ accepts (plan Narrow Intersection (Of Univalents)) stays_rules stays (0 ∷ 0 ∷ 23 ∷ 12 ∷ 6 ∷ 6 ∷ 6 ∷ []) BottomUp (sheet_bytes Narrow stays_univalents) (1 ∷ 1 ∷ 1 ∷ 1 ∷ 1 ∷ 1 ∷ [])
-    ∷ accepts (plan Narrow Intersection (Of Univalents)) fewer_rules fewer (0 ∷ 4 ∷ 9 ∷ 5 ∷ 2 ∷ 4 ∷ 3 ∷ []) BottomUp (sheet_bytes Narrow fewer_lowered) (1 ∷ 0 ∷ 0 ∷ 1 ∷ 1 ∷ [])
-    ∷ accepts (plan Narrow Intersection (Of Univalents)) after_rules after (0 ∷ 0 ∷ 13 ∷ 7 ∷ 3 ∷ 4 ∷ 4 ∷ []) BottomUp (sheet_bytes Narrow after_univalents) (1 ∷ 1 ∷ 1 ∷ 1 ∷ [])
-    ∷ accepts (plan Narrow Intersection (Of Univalents)) rest_outside_rules rest_outside (4 ∷ 0 ∷ 11 ∷ 6 ∷ 3 ∷ 4 ∷ 3 ∷ []) BottomUp (sheet_bytes Narrow rest_outside_lowered) (1 ∷ 1 ∷ 1 ∷ [])
-    ∷ accepts (plan Narrow Intersection (Of Univalents)) on_two_literals_rules on_two_literals (0 ∷ 0 ∷ 25 ∷ 13 ∷ 7 ∷ 6 ∷ 6 ∷ []) BottomUp (sheet_bytes Narrow on_two_literals_lowered) (1 ∷ 1 ∷ 1 ∷ 1 ∷ 1 ∷ 1 ∷ [])
-    ∷ accepts (plan Narrow Intersection (Of Univalents)) as_rebuilt_rules as_rebuilt (0 ∷ 0 ∷ 17 ∷ 9 ∷ 4 ∷ 5 ∷ 5 ∷ []) BottomUp (sheet_bytes Narrow as_rebuilt_univalents) (1 ∷ 1 ∷ 1 ∷ 0 ∷ 1 ∷ 1 ∷ [])
-    ∷ accepts (plan Narrow Intersection (Of Univalents)) lacks_it_rules lacks_it (0 ∷ 0 ∷ 5 ∷ 3 ∷ 1 ∷ 3 ∷ 2 ∷ []) BottomUp (sheet_bytes Narrow lacks_it_univalents) (0 ∷ 0 ∷ 1 ∷ 0 ∷ 0 ∷ 1 ∷ 0 ∷ [])
-    ∷ accepts (plan Wide Intersection (Of Univalents)) high_after_rules high_after (0 ∷ 0 ∷ 13 ∷ 7 ∷ 3 ∷ 4 ∷ 4 ∷ []) BottomUp (sheet_bytes Wide high_after_univalents) (1 ∷ 1 ∷ 1 ∷ 1 ∷ [])
+    accepts (plan Narrow Intersection (Some Univalents)) opposites_rules opposites (0 ∷ 0 ∷ 23 ∷ 12 ∷ 6 ∷ 6 ∷ 6 ∷ []) BottomUp (sheet_bytes Narrow opposites_univalents) (1 ∷ 1 ∷ 1 ∷ 1 ∷ 1 ∷ 1 ∷ [])
+    ∷ accepts (plan Narrow Intersection (Some Univalents)) stays_rules stays (0 ∷ 0 ∷ 23 ∷ 12 ∷ 6 ∷ 6 ∷ 6 ∷ []) BottomUp (sheet_bytes Narrow stays_univalents) (1 ∷ 1 ∷ 1 ∷ 1 ∷ 1 ∷ 1 ∷ [])
+    ∷ accepts (plan Narrow Intersection (Some Univalents)) fewer_rules fewer (0 ∷ 4 ∷ 9 ∷ 5 ∷ 2 ∷ 4 ∷ 3 ∷ []) BottomUp (sheet_bytes Narrow fewer_lowered) (1 ∷ 0 ∷ 0 ∷ 1 ∷ 1 ∷ [])
+    ∷ accepts (plan Narrow Intersection (Some Univalents)) after_rules after (0 ∷ 0 ∷ 13 ∷ 7 ∷ 3 ∷ 4 ∷ 4 ∷ []) BottomUp (sheet_bytes Narrow after_univalents) (1 ∷ 1 ∷ 1 ∷ 1 ∷ [])
+    ∷ accepts (plan Narrow Intersection (Some Univalents)) rest_outside_rules rest_outside (4 ∷ 0 ∷ 11 ∷ 6 ∷ 3 ∷ 4 ∷ 3 ∷ []) BottomUp (sheet_bytes Narrow rest_outside_lowered) (1 ∷ 1 ∷ 1 ∷ [])
+    ∷ accepts (plan Narrow Intersection (Some Univalents)) on_two_literals_rules on_two_literals (0 ∷ 0 ∷ 25 ∷ 13 ∷ 7 ∷ 6 ∷ 6 ∷ []) BottomUp (sheet_bytes Narrow on_two_literals_lowered) (1 ∷ 1 ∷ 1 ∷ 1 ∷ 1 ∷ 1 ∷ [])
+    ∷ accepts (plan Narrow Intersection (Some Univalents)) as_rebuilt_rules as_rebuilt (0 ∷ 0 ∷ 17 ∷ 9 ∷ 4 ∷ 5 ∷ 5 ∷ []) BottomUp (sheet_bytes Narrow as_rebuilt_univalents) (1 ∷ 1 ∷ 1 ∷ 0 ∷ 1 ∷ 1 ∷ [])
+    ∷ accepts (plan Narrow Intersection (Some Univalents)) lacks_it_rules lacks_it (0 ∷ 0 ∷ 5 ∷ 3 ∷ 1 ∷ 3 ∷ 2 ∷ []) BottomUp (sheet_bytes Narrow lacks_it_univalents) (0 ∷ 0 ∷ 1 ∷ 0 ∷ 0 ∷ 1 ∷ 0 ∷ [])
+    ∷ accepts (plan Wide Intersection (Some Univalents)) high_after_rules high_after (0 ∷ 0 ∷ 13 ∷ 7 ∷ 3 ∷ 4 ∷ 4 ∷ []) BottomUp (sheet_bytes Wide high_after_univalents) (1 ∷ 1 ∷ 1 ∷ 1 ∷ [])
     ∷ []
 
 abbrev pub LoweredUnivalents : Type 0

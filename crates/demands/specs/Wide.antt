@@ -1,11 +1,10 @@
 -- Cases of the wide edition, most of them on variables that the narrow one does not have. Made by the second program: `reference tables`.
-use Rattle.std.specs.Prelude.{◌+◌, ◌^◌, List, [], ◌∷◌, T}
+use Rattle.std.specs.Prelude.{◌+◌, ◌^◌, List, [], ◌∷◌, T, None}
 use Rattle.clause.specs.Clauses.{Literals, literals}
 use Rattle.sheet.specs.declared.edition.Edition.TheVariants.{Narrow, Wide}
 use Rattle.sheet.specs.Records.{given, step, Record, node, drop}
 use Rattle.sheet.specs.Fields.{sheet_bytes}
 use Rattle.press_spec.specs.declared.Recycling.{Recycling}
-use Rattle.press_spec.specs.declared.Lowering.TheVariants.{Nothing}
 use Rattle.press_spec.specs.declared.Order.TheVariants.{BottomUp}
 use Rattle.press_spec.specs.Plans.{plan}
 use Rattle.demands.specs.Cases.{Case, presses, replays, accepts, refuses, replayed, rule_table, junk, clean, all_right}
@@ -163,30 +162,30 @@ high_both_ways_rules = literals (1 + 2 ^ 100) (2 ^ 100) ∷ []
 
 unfoldable pub wide : Recycling → List Case
 wide how =
-    accepts (plan Wide how Nothing) pivot127_rules pivot127 (0 ∷ 0 ∷ 5 ∷ 3 ∷ 1 ∷ 3 ∷ 2 ∷ []) BottomUp (sheet_bytes Wide pivot127_pressed) (1 ∷ 1 ∷ [])
-    ∷ accepts (plan Wide how Nothing) high_irregular_rules high_irregular (0 ∷ 0 ∷ 9 ∷ 5 ∷ 2 ∷ 3 ∷ 3 ∷ []) BottomUp (sheet_bytes Wide high_irregular_pressed) (1 ∷ 0 ∷ 1 ∷ 1 ∷ 0 ∷ [])
-    ∷ accepts (plan Wide how Nothing) high_kept_rules high_kept ((2 ^ 64 + 2 ^ 127) ∷ 0 ∷ 5 ∷ 3 ∷ 1 ∷ 3 ∷ 2 ∷ []) BottomUp (sheet_bytes Wide high_kept_pressed) (1 ∷ 1 ∷ [])
-    ∷ accepts (plan Wide how Nothing) high_one_way_rules high_one_way ((2 ^ 36) ∷ (2 ^ 100) ∷ 1 ∷ 1 ∷ 0 ∷ 1 ∷ 1 ∷ []) BottomUp (sheet_bytes Wide high_one_way_pressed) (1 ∷ [])
-    ∷ accepts (plan Wide how Nothing) either_edition_rules either_edition ((2 ^ 64 + 2 ^ 112 + 2 ^ 115) ∷ 0 ∷ 1 ∷ 1 ∷ 0 ∷ 1 ∷ 1 ∷ []) BottomUp (sheet_bytes Wide either_edition_pressed) (0 ∷ 0 ∷ 0 ∷ 0 ∷ 1 ∷ [])
-    ∷ refuses (plan Wide how Nothing) pivot127_rules pivot128 8 2
+    accepts (plan Wide how None) pivot127_rules pivot127 (0 ∷ 0 ∷ 5 ∷ 3 ∷ 1 ∷ 3 ∷ 2 ∷ []) BottomUp (sheet_bytes Wide pivot127_pressed) (1 ∷ 1 ∷ [])
+    ∷ accepts (plan Wide how None) high_irregular_rules high_irregular (0 ∷ 0 ∷ 9 ∷ 5 ∷ 2 ∷ 3 ∷ 3 ∷ []) BottomUp (sheet_bytes Wide high_irregular_pressed) (1 ∷ 0 ∷ 1 ∷ 1 ∷ 0 ∷ [])
+    ∷ accepts (plan Wide how None) high_kept_rules high_kept ((2 ^ 64 + 2 ^ 127) ∷ 0 ∷ 5 ∷ 3 ∷ 1 ∷ 3 ∷ 2 ∷ []) BottomUp (sheet_bytes Wide high_kept_pressed) (1 ∷ 1 ∷ [])
+    ∷ accepts (plan Wide how None) high_one_way_rules high_one_way ((2 ^ 36) ∷ (2 ^ 100) ∷ 1 ∷ 1 ∷ 0 ∷ 1 ∷ 1 ∷ []) BottomUp (sheet_bytes Wide high_one_way_pressed) (1 ∷ [])
+    ∷ accepts (plan Wide how None) either_edition_rules either_edition ((2 ^ 64 + 2 ^ 112 + 2 ^ 115) ∷ 0 ∷ 1 ∷ 1 ∷ 0 ∷ 1 ∷ 1 ∷ []) BottomUp (sheet_bytes Wide either_edition_pressed) (0 ∷ 0 ∷ 0 ∷ 0 ∷ 1 ∷ [])
+    ∷ refuses (plan Wide how None) pivot127_rules pivot128 8 2
     ∷ replayed Wide (sheet_bytes Wide pivot128) pivot127_rules 3 (8 ∷ 2 ∷ [])
-    ∷ refuses (plan Wide how Nothing) high_kept_rules high_lost 12 2
+    ∷ refuses (plan Wide how None) high_kept_rules high_lost 12 2
     ∷ replayed Wide (sheet_bytes Wide high_lost) high_kept_rules 3 (12 ∷ 2 ∷ [])
-    ∷ refuses (plan Wide how Nothing) high_kept_rules high_added 18 2
+    ∷ refuses (plan Wide how None) high_kept_rules high_added 18 2
     ∷ replayed Wide (sheet_bytes Wide high_added) high_kept_rules 3 (18 ∷ 2 ∷ [])
-    ∷ refuses (plan Wide how Nothing) high_kept_rules high_moved 12 2
+    ∷ refuses (plan Wide how None) high_kept_rules high_moved 12 2
     ∷ replayed Wide (sheet_bytes Wide high_moved) high_kept_rules 3 (12 ∷ 2 ∷ [])
-    ∷ refuses (plan Wide how Nothing) high_given_rules high_given 14 0
+    ∷ refuses (plan Wide how None) high_given_rules high_given 14 0
     ∷ replayed Wide (sheet_bytes Wide high_given) high_given_rules 3 (14 ∷ 0 ∷ [])
-    ∷ refuses (plan Wide how Nothing) high_both_ways_rules high_both_ways 17 0
+    ∷ refuses (plan Wide how None) high_both_ways_rules high_both_ways 17 0
     ∷ replayed Wide (sheet_bytes Wide high_both_ways) high_both_ways_rules 3 (17 ∷ 0 ∷ [])
     ∷ replayed Wide (sheet_bytes Wide pivot127_pressed) pivot127_rules 3 (0 ∷ 0 ∷ 3 ∷ 1 ∷ 3 ∷ [])
     ∷ replayed Wide (sheet_bytes Wide pivot127_pressed) pivot127_rules 2 (15 ∷ 2 ∷ [])
     ∷ replayed Wide (sheet_bytes Wide high_irregular_pressed) high_irregular_rules 3 (0 ∷ 0 ∷ 5 ∷ 2 ∷ 3 ∷ [])
     ∷ replayed Wide (sheet_bytes Wide high_irregular_pressed) high_irregular_rules 2 (15 ∷ 2 ∷ [])
-    ∷ accepts (plan Wide how Nothing) lone_rules lone (1 ∷ 0 ∷ 1 ∷ 1 ∷ 0 ∷ 1 ∷ 1 ∷ []) BottomUp (sheet_bytes Wide lone_pressed) (1 ∷ [])
-    ∷ presses (plan Wide how Nothing) (sheet_bytes Wide lone) (rule_table Wide lone_rules) 39 1 (5 ∷ 0 ∷ []) (junk 39) (junk 1)
-    ∷ presses (plan Wide how Nothing) (sheet_bytes Wide high_irregular) (rule_table Wide high_irregular_rules) 679 5 (5 ∷ 0 ∷ []) (junk 679) (junk 5)
+    ∷ accepts (plan Wide how None) lone_rules lone (1 ∷ 0 ∷ 1 ∷ 1 ∷ 0 ∷ 1 ∷ 1 ∷ []) BottomUp (sheet_bytes Wide lone_pressed) (1 ∷ [])
+    ∷ presses (plan Wide how None) (sheet_bytes Wide lone) (rule_table Wide lone_rules) 39 1 (5 ∷ 0 ∷ []) (junk 39) (junk 1)
+    ∷ presses (plan Wide how None) (sheet_bytes Wide high_irregular) (rule_table Wide high_irregular_rules) 679 5 (5 ∷ 0 ∷ []) (junk 679) (junk 5)
     ∷ replayed Wide (sheet_bytes Wide either_edition) either_edition_rules 5 ((2 ^ 64 + 2 ^ 112 + 2 ^ 115) ∷ 0 ∷ 3 ∷ 0 ∷ 3 ∷ [])
     ∷ replays Narrow (sheet_bytes Wide either_edition) (rule_table Wide either_edition_rules) 5 (0 ∷ 0 ∷ 5 ∷ 0 ∷ 5 ∷ []) (clean 5)
     ∷ []

@@ -48,7 +48,7 @@ module _ (edition : Edition) (rules sheet : List ℕ) where
     same_turn : turn edition rules (record_at edition sheet (length (take k s))) (take k s) ≡ turn edition rules b (take k s)
     same_turn = ap (λ (l : List ℕ). turn edition rules l (take k s)) (ap (record_at edition sheet) whole ∙ sym here)
 
-    pub judge-goes : (v : Verdict) (after : List Node) → v ≡ (Ok tt) → Turned edition rules b s k v after → Left n (k + 1) after
+    pub judge-goes : (v : Verdict) (after : List Node) → v ≡ Ok tt → Turned edition rules b s k v after → Left n (k + 1) after
     unfolding turn_stores
     judge-goes v after fine t =
         let went = said-fine (turn edition rules b (take k s)) (sym fine ∙ t.0) in

@@ -1,4 +1,5 @@
 -- What is pressed, by the lowering that the plan chooses.
+use Rattle.std.proofs.Common.{None, Some}
 use Prim.Native.Nat.{ℕ}
 use mathlib.Core.List.{List}
 use mathlib.Core.Path.{◌≡◌, ap, subst}
@@ -7,7 +8,6 @@ use Rattle.sheet.specs.Editions.{variables}
 use Rattle.sheet.specs.Records.{Node}
 use Rattle.sheet.specs.Fields.{sheet_bytes}
 use Rattle.press_spec.specs.declared.Lowerable.{Lowerable}
-use Rattle.press_spec.specs.declared.Lowering.TheVariants.{Nothing, Of}
 use Rattle.press_spec.specs.declared.Plan.{Plan}
 use Rattle.press_spec.specs.Rebuild.{Ended}
 use Rattle.press_spec.specs.Lowerings.{lower_of, lower_by}
@@ -18,11 +18,11 @@ use Rattle.press_write.specs.Reported.{reported}
 use Rattle.press_passes.specs.Finishing.{Finishes}
 
 module _ (plan : Plan) (s : List Node) (t : Ended) (short : t ≡ shortened (chosen_fit plan s) (conclusion s) s) where
-  pub nothing-concluded : plan.lowering ≡ Nothing → t ≡ concluded plan (conclusion s) s
+  pub nothing-concluded : plan.lowering ≡ None → t ≡ concluded plan (conclusion s) s
   unfolding concluded lower_by
   nothing-concluded q = rw (q, short)
 
-  module _ (which : Lowerable) (q : plan.lowering ≡ Of which) where
+  module _ (which : Lowerable) (q : plan.lowering ≡ Some which) where
     pub lowered-concluded : lower_of which (variables plan.edition) t ≡ concluded plan (conclusion s) s
     unfolding concluded lower_by
     lowered-concluded = rw (q, short)

@@ -25,11 +25,11 @@ module _ (edition : Edition) (s : List Node) (next : ℕ) (h : next ≤ length s
     unfolding check_node and_then
     left-late why e = rw (length-take-le next s h, e)
 
-    pub right-late : (why : Reason) → check_earlier next l ≡ (Ok tt) → check_earlier next r ≡ Err why → check_node edition rules (take next s) (step p l r c) ≡ Err why
+    pub right-late : (why : Reason) → check_earlier next l ≡ Ok tt → check_earlier next r ≡ Err why → check_node edition rules (take next s) (step p l r c) ≡ Err why
     unfolding check_node and_then
     right-late why d e = rw (length-take-le next s h, d, e)
 
-    pub both-early : check_earlier next l ≡ (Ok tt) → check_earlier next r ≡ (Ok tt)
+    pub both-early : check_earlier next l ≡ Ok tt → check_earlier next r ≡ Ok tt
         → check_node edition rules (take next s) (step p l r c) ≡ check_step p (clause (node_at s l)) (clause (node_at s r)) c
     unfolding check_node and_then
     both-early d e =
@@ -70,7 +70,7 @@ module _ {edition : Edition} {rules b : List ℕ} {s : List Node} {k : ℕ} {n :
   unfolding by_verdict
   turn-refused {why} p = stopped edition rules b s k why p (turned ∙ ap (by_verdict n) p)
 
-  pub turn-fine : {after : List Node} → v ≡ (Ok tt) → after ≡ set s k n → Turned edition rules b s k v after
+  pub turn-fine : {after : List Node} → v ≡ Ok tt → after ≡ set s k n → Turned edition rules b s k v after
   unfolding by_verdict turn_says turn_stores
   turn-fine p q =
       let e : turn edition rules b (take k s) ≡ goes n = turned ∙ ap (by_verdict n) p in

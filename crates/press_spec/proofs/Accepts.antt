@@ -123,7 +123,7 @@ Roomy e n z = (record_bytes e * (2 * n - 1) ≤ z.out) × (z.rules / line_bytes 
 abbrev pub Enough : Edition → Sizes → ℕ → Type 0
 Enough e z n = Lengths e (press_records e) z.sheet z.rules n × Roomy e n z
 
-pub press-fine : (e : Edition) (z : Sizes) → check_press e z ≡ (Ok tt) → Enough e z (z.sheet / record_bytes e)
+pub press-fine : (e : Edition) (z : Sizes) → check_press e z ≡ Ok tt → Enough e z (z.sheet / record_bytes e)
 unfolding check_press check_room
 press-fine e z q =
     let n = z.sheet / record_bytes e in
@@ -131,7 +131,7 @@ press-fine e z q =
     let w = (and-eq-true_iff (leb (record_bytes e * (2 * n - 1)) z.out) (leb (z.rules / line_bytes e) z.marks)).0 (unless-fine _ Room (Ok tt) y.1).0 in
     (lengths-fine e (press_records e) z.sheet z.rules y.0, (leb-true _ z.out w.0, leb-true _ z.marks w.1))
 
-fine-press : (e : Edition) (z : Sizes) (n : ℕ) → Enough e z n → check_press e z ≡ (Ok tt)
+fine-press : (e : Edition) (z : Sizes) (n : ℕ) → Enough e z n → check_press e z ≡ Ok tt
 unfolding check_press check_room
 fine-press e z n (l, (r, m)) =
     fine-and_then _ _ (fine-lengths e (press_records e) z.sheet z.rules n l)
@@ -161,7 +161,7 @@ module _ (plan : Plan) (c : Call) where
 
   -- ---- a sheet that passes 1 to 5 and is judged proper
 
-  module _ (s : List Node) (fine : checked ≡ (Ok tt)) (j : judge e rules sheet ≡ proper s) where
+  module _ (s : List Node) (fine : checked ≡ Ok tt) (j : judge e rules sheet ≡ proper s) where
     does : press plan c ≡ by_judging plan c (proper s)
     unfolding press by_lengths
     does = rw (fine, j)
@@ -184,7 +184,7 @@ module _ (plan : Plan) (c : Call) where
     marks-core = ap (λ (o : Outcome). o.marks) does
 
   -- every answer but a refusal comes from a sheet that passes 1 to 5 and is judged proper
-  judged-accepted : (r : Report) → (press plan c).answer ≡ accepted r → (checked ≡ (Ok tt)) × (s : List Node) × (judge e rules sheet ≡ proper s)
+  judged-accepted : (r : Report) → (press plan c).answer ≡ accepted r → (checked ≡ Ok tt) × (s : List Node) × (judge e rules sheet ≡ proper s)
   unfolding press by_lengths by_judging refuse
   judged-accepted r = by_lengths_lem checked refl
     where
@@ -194,7 +194,7 @@ module _ (plan : Plan) (c : Call) where
       by-judging (bad why k) q a = let z : ◌≡◌ {A = ℕ} 0 1 = cc in absurd (omega arith)
 
       by_lengths_lem : (v : Verdict) → checked ≡ v → (by_lengths plan c v).answer ≡ accepted r
-          → (checked ≡ (Ok tt)) × (s : List Node) × (judge e rules sheet ≡ proper s)
+          → (checked ≡ Ok tt) × (s : List Node) × (judge e rules sheet ≡ proper s)
       by_lengths_lem (Ok tt) q a = let (s, j) = by-judging (judge e rules sheet) refl a in (q, s, j)
       by_lengths_lem (Err why) q a = let z : ◌≡◌ {A = ℕ} 0 1 = cc in absurd (omega arith)
 

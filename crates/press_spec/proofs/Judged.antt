@@ -24,7 +24,7 @@ use Rattle.press_spec.proofs.Nodes.{length_more, node_at-before, node_at-end, al
 -- ---- the checks of a node
 
 module _ (e : Edition) (rules : List ℕ) (s : List Node) where
-  check-fine : (m : Node) → PivotBelow e m → check_node e rules s m ≡ (Ok tt) → ProperNode e rules s (length s) m
+  check-fine : (m : Node) → PivotBelow e m → check_node e rules s m ≡ Ok tt → ProperNode e rules s (length s) m
   unfolding check_node
   check-fine (given line c) h q = given-fine e rules line c q
   check-fine (step p l r c) h q =
@@ -33,7 +33,7 @@ module _ (e : Edition) (rules : List ℕ) (s : List Node) where
       let (held, negated, is) = step-fine p (clause (node_at s l)) (clause (node_at s r)) c y.1 in
       (h, earlier-fine _ l x.0, earlier-fine _ r y.0, held, negated, is)
 
-  fine-check : (m : Node) → ProperNode e rules s (length s) m → check_node e rules s m ≡ (Ok tt)
+  fine-check : (m : Node) → ProperNode e rules s (length s) m → check_node e rules s m ≡ Ok tt
   unfolding check_node
   fine-check (given line c) d = fine-given e rules line c d.0 d.1 d.2
   fine-check (step p l r c) d =
@@ -44,7 +44,7 @@ module _ (e : Edition) (rules : List ℕ) (s : List Node) where
 -- ---- a turn goes on with a node exactly when its record reads as that node and the node is proper
 
 module _ (e : Edition) (rules : List ℕ) (s : List Node) where
-  verdict-goes : (m n : Node) (v : Verdict) → by_verdict m v ≡ goes n → (m ≡ n) × (v ≡ (Ok tt))
+  verdict-goes : (m n : Node) (v : Verdict) → by_verdict m v ≡ goes n → (m ≡ n) × (v ≡ Ok tt)
   unfolding by_verdict
   verdict-goes m n (Ok tt) q = (cc, refl)
   verdict-goes m n (Err why) q = (cc, cc)

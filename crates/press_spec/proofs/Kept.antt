@@ -1,5 +1,6 @@
 -- What every press keeps: step 4 leaves an `Ending`, by any cuts that are Allowed, and so does each pass of lowering. And the press of the scope document as
 -- one of these.
+use Rattle.std.proofs.Common.{None, Some}
 use Prim.Native.Nat.{ℕ, suc, ◌*◌, ◌≤◌, ◌<◌, pred}
 use mathlib.Core.Path.{◌≡◌, refl, ap}
 use mathlib.Core.Bool.{true}
@@ -15,12 +16,10 @@ use Rattle.sheet.specs.Counts.{steps_of}
 use Rattle.press_spec.specs.declared.Recycling.{Recycling}
 use Rattle.press_spec.specs.declared.Lowerable.{Lowerable}
 use Rattle.press_spec.specs.declared.Lowerable.TheVariants.{Units, Univalents}
-use Rattle.press_spec.specs.declared.Lowering.{Lowering}
-use Rattle.press_spec.specs.declared.Lowering.TheVariants.{Nothing, Of}
 use Rattle.press_spec.specs.declared.Plan.{Plan}
 use Rattle.press_spec.specs.Links.{link, links, sink}
 use Rattle.press_spec.specs.Trim.{uses_from}
-use Rattle.press_spec.specs.Plans.{plan}
+use Rattle.press_spec.specs.Plans.{plan, Lowering}
 use Rattle.press_spec.specs.Recycle.{Reach, unreached, reached, Fit, fit_of, Fate, fates}
 use Rattle.press_spec.specs.Rebuild.{Built, stand_in, standing, rebuild, Ended, ended_at}
 use Rattle.press_spec.specs.Lower.{Lowered, lowered, low_at, unit_concludes, return_of, Back}
@@ -149,23 +148,23 @@ module _ (e : Edition) (how : Recycling) (rules : List ℕ) (s : List Node) (pro
 
   low-kept : (w : Lowering) → Kept e rules s (arranged (lower_by w (variables e) four))
   unfolding lower_by lower_of
-  low-kept Nothing = ending-kept e rules s four _ four-ending
-  low-kept (Of which) = ending-kept e rules s _ _ (lowering-ending e rules s four _ four-ending (low which) (so which) (lowers which))
+  low-kept None = ending-kept e rules s four _ four-ending
+  low-kept (Some which) = ending-kept e rules s _ _ (lowering-ending e rules s four _ four-ending (low which) (so which) (lowers which))
 
   low-concludes : (w : Lowering) → Concludes e rules (lower_by w (variables e) four).nodes (lower_by w (variables e) four).last
   unfolding lower_by lower_of
-  low-concludes Nothing = ending-concludes e rules s four _ four-ending
-  low-concludes (Of which) = ending-concludes e rules s _ _ (lowering-ending e rules s four _ four-ending (low which) (so which) (lowers which))
+  low-concludes None = ending-concludes e rules s four _ four-ending
+  low-concludes (Some which) = ending-concludes e rules s _ _ (lowering-ending e rules s four _ four-ending (low which) (so which) (lowers which))
 
   low-shorter : (w : Lowering) → steps_of (arranged (lower_by w (variables e) four)) ≤ steps_of (arranged four)
   unfolding lower_by lower_of
-  low-shorter Nothing = omega arith
-  low-shorter (Of which) = omega (arith, lowering-shortens e rules s four _ four-ending (low which) (so which) (lowers which))
+  low-shorter None = omega arith
+  low-shorter (Some which) = omega (arith, lowering-shortens e rules s four _ four-ending (low which) (so which) (lowers which))
 
   low-numbers : (w : Lowering) → 2 * length (lower_by w (variables e) four).nodes ≤ 3 * length s
   unfolding lower_by lower_of
-  low-numbers Nothing = omega (arith, four-long)
-  low-numbers (Of which) = omega (
+  low-numbers None = omega (arith, four-long)
+  low-numbers (Some which) = omega (
     arith,
     half-more e rules four.nodes four.last (ending-concludes e rules s four _ four-ending) (low which) (so which) (lowers which),
     four-long,
@@ -199,13 +198,13 @@ module _ (plan : Plan) (rules : List ℕ) (s : List Node) (proper : AllProper pl
 
 -- no choice of lowering has more steps than none
 pub lowering-shorter : (e : Edition) (how : Recycling) (w : Lowering) (rules : List ℕ) (s : List Node) → AllProper e rules s → 1 ≤ length s
-    → steps_of (pressed (plan e how w) s) ≤ steps_of (pressed (plan e how Nothing) s)
+    → steps_of (pressed (plan e how w) s) ≤ steps_of (pressed (plan e how None) s)
 unfolding pressed pressed_from concluded lower_by
 lowering-shorter e how w rules s proper full = low-shorter e how rules s proper full w
 
 -- "The program goes on without it.": with nothing lowered, step 5 arranges what step 4 leaves
 pub nothing-as-before : (e : Edition) (how : Recycling) (s : List Node)
-    → pressed (plan e how Nothing) s ≡ arranged (shortened (chosen_fit (plan e how Nothing) s) (conclusion s) s)
+    → pressed (plan e how None) s ≡ arranged (shortened (chosen_fit (plan e how None) s) (conclusion s) s)
 unfolding pressed pressed_from concluded lower_by
 nothing-as-before e how s = refl
 

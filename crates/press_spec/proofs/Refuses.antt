@@ -61,11 +61,11 @@ module _ (e : Edition) (z : Sizes) where
   unfolding check_press check_room
   refused-press = refused-lent (lent_to e z) roomy room-tells
 
-  pub press-none : check_press e z ≡ (Ok tt) → LentFine (lent_to e z)
+  pub press-none : check_press e z ≡ Ok tt → LentFine (lent_to e z)
   unfolding check_press check_room
   press-none = lent-fine (lent_to e z) roomy room-tells
 
-  pub none-press : LentFine (lent_to e z) → check_press e z ≡ (Ok tt)
+  pub none-press : LentFine (lent_to e z) → check_press e z ≡ Ok tt
   unfolding check_press check_room
   none-press = fine-lent (lent_to e z) roomy room-tells
 
@@ -145,7 +145,7 @@ module _ (plan : Plan) (c : Call) (n k : ℕ) where
   abbrev judging : Judged
   judging = judge e c.rules c.sheet
 
-  by-judging : checked ≡ (Ok tt) → (j : Judged) → judging ≡ j → (by_judging plan c j).answer ≡ refused n k → (rs : List Record) × LentFine lent × RecordRefused (place_after e c.rules rs) c.sheet n k
+  by-judging : checked ≡ Ok tt → (j : Judged) → judging ≡ j → (by_judging plan c j).answer ≡ refused n k → (rs : List Record) × LentFine lent × RecordRefused (place_after e c.rules rs) c.sheet n k
   unfolding by_judging emit refuse
   by-judging f (proper s) q a = let z : ◌≡◌ {A = ℕ} 0 1 = cc in absurd (omega arith)
   by-judging f (bad why i) q a =

@@ -1,9 +1,8 @@
 -- What is lowered after step 4, by the pass chosen.
-use Rattle.std.specs.Prelude.{ℕ, List}
+use Rattle.press_spec.specs.Plans.{Lowering}
+use Rattle.std.specs.Prelude.{ℕ, List, None, Some}
 use Rattle.press_spec.specs.declared.Lowerable.{Lowerable}
 use Rattle.press_spec.specs.declared.Lowerable.TheVariants.{Units, Univalents}
-use Rattle.press_spec.specs.declared.Lowering.{Lowering}
-use Rattle.press_spec.specs.declared.Lowering.TheVariants.{Nothing, Of}
 use Rattle.press_spec.specs.Rebuild.{Built, Ended}
 use Rattle.press_spec.specs.Lower.{Lowered, low_at, come_back_all}
 use Rattle.press_spec.specs.Units.{collected, units_built}
@@ -24,5 +23,5 @@ unfoldable pub lower_of : Lowerable → ℕ → Ended → Ended
 lower_of which v t = come_back_all (low_at (lows_of which v t)) (built_of which v t) t.last
 
 unfoldable pub lower_by : Lowering → ℕ → Ended → Ended
-lower_by Nothing v t = t
-lower_by (Of which) v t = lower_of which v t
+lower_by None v t = t
+lower_by (Some which) v t = lower_of which v t

@@ -22,7 +22,7 @@ use Rattle.press.specs.Said.{said}
 use Rattle.press.proofs.Ready.{press-refused}
 use Rattle.program_whole.specs.Whole.{program_plan, Starts, Fits}
 
-module _ (z : Sizes) (fine : check_press Narrow z ≡ (Ok tt)) where
+module _ (z : Sizes) (fine : check_press Narrow z ≡ Ok tt) where
   enough : Enough Narrow z (z.sheet / record_bytes Narrow)
   enough = press-fine Narrow z fine
 

@@ -1,9 +1,8 @@
 -- What the program presses by; a file and the start of it that is at hand.
-use Rattle.std.specs.Prelude.{ℕ, ◌*◌, ◌≤◌, ◌≡◌, List, length, take}
+use Rattle.std.specs.Prelude.{ℕ, ◌*◌, ◌≤◌, ◌≡◌, List, length, take, None}
 use Rattle.sheet.specs.declared.edition.Edition.TheVariants.{Narrow}
 use Rattle.sheet.specs.Editions.{record_bytes}
 use Rattle.press_spec.specs.declared.Recycling.TheVariants.{Intersection}
-use Rattle.press_spec.specs.declared.Lowering.TheVariants.{Nothing}
 use Rattle.press_spec.specs.declared.Plan.{Plan}
 use Rattle.press_spec.specs.Plans.{plan}
 use Rattle.press.specs.declared.PressAnswer.{PressAnswer}
@@ -11,7 +10,7 @@ use Rattle.press.specs.declared.PressAnswer.TheVariants.{Accepted, Refused}
 
 -- "The program stays with 64 variables", "the program takes the new one", and "the program goes on without" lowering
 abbrev pub program_plan : Plan
-program_plan = plan Narrow Intersection Nothing
+program_plan = plan Narrow Intersection None
 
 -- s is a file of so many bytes, all of them at the start of the buffer if they fit
 abbrev pub Starts : List ℕ → ℕ → List ℕ → Type 0

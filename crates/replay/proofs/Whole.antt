@@ -18,7 +18,7 @@ use Rattle.replay_slots.specs.Said.{row_of}
 use Rattle.replay_answer.specs.Answers.{ended}
 use Rattle.replay_slots.proofs.Rows.{row-length}
 
-pub fine-is : (v : Verdict) → passes v ≡ true → v ≡ (Ok tt)
+pub fine-is : (v : Verdict) → passes v ≡ true → v ≡ Ok tt
 unfolding passes
 fine-is (Ok tt) e = refl
 fine-is (Err why) e = cc

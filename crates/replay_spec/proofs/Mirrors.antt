@@ -158,14 +158,14 @@ module _ (e : Edition) (rules : List ℕ) (done : List Record) (s : State) (m : 
   after-mirrors (drop n) p q = drop-mirrors done s m n p
 
   -- the checks of a named node
-  earlier-fine : (n : ℕ) → Held done n → check_earlier s.tally.next n ≡ (Ok tt)
+  earlier-fine : (n : ℕ) → Held done n → check_earlier s.tally.next n ≡ Ok tt
   earlier-fine n h = fine-earlier s.tally.next n (omega (arith, h.0, numbered m))
 
-  held-fine : (n : ℕ) → Held done n → check_held s.slots n ≡ (Ok tt)
+  held-fine : (n : ℕ) → Held done n → check_held s.slots n ≡ Ok tt
   unfolding check_held
   held-fine n h = fine-unless _ Dropped (Ok tt) (m.all n h) refl
 
-  fine-held : (n : ℕ) → check_held s.slots n ≡ (Ok tt) → Held done n
+  fine-held : (n : ℕ) → check_held s.slots n ≡ Ok tt → Held done n
   unfolding check_held
   fine-held n v = m.only n (unless-fine _ Dropped (Ok tt) v).0
 
@@ -184,7 +184,7 @@ module _ (e : Edition) (rules : List ℕ) (done : List Record) (s : State) (m : 
         fine-step p (clause_in done l) (clause_in done r) c plus minus result,
       )
 
-  pub proper-fine : (r : Record) → ProperAfter e rules done r → Roomy r s.slots → check_record e rules s r ≡ (Ok tt)
+  pub proper-fine : (r : Record) → ProperAfter e rules done r → Roomy r s.slots → check_record e rules s r ≡ Ok tt
   unfolding check_room unless check_record first_of and_then
   proper-fine (node x) p q = proper-checked x p ∙ rw q
   proper-fine (drop n) p q = rw (earlier-fine n p, held-fine n p)
@@ -194,7 +194,7 @@ module _ (e : Edition) (rules : List ℕ) (done : List Record) (s : State) (m : 
   proper-full x p q = proper-checked x p ∙ rw q
 
   -- what passes is proper, and has room
-  pub fine-proper : (r : Record) → check_record e rules s r ≡ (Ok tt) → ProperAfter e rules done r × Roomy r s.slots
+  pub fine-proper : (r : Record) → check_record e rules s r ≡ Ok tt → ProperAfter e rules done r × Roomy r s.slots
   unfolding check_record first_of check_room
   fine-proper (node (given line c)) v =
       let (line-fine, rest) = and_then-fine _ _ v in

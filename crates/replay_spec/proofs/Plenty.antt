@@ -57,16 +57,16 @@ module _ (others : List Slot) where
     checked-wider (drop n) = rw (held-wider s.slots n)
 
     -- a drop that is fine is of a node that is held
-    drop-held : (n : ℕ) → check_record e rules s (drop n) ≡ (Ok tt) → held n s.slots ≡ true
+    drop-held : (n : ℕ) → check_record e rules s (drop n) ≡ Ok tt → held n s.slots ≡ true
     unfolding check_record first_of check_held
     drop-held n v = (unless-fine _ Dropped _ (and_then-fine _ _ (and_then-fine _ _ v).1).0).0
 
-    after-wider : (r : Record) → check_record e rules s r ≡ (Ok tt) → after (wider s) r ≡ wider (after s r)
+    after-wider : (r : Record) → check_record e rules s r ≡ Ok tt → after (wider s) r ≡ wider (after s r)
     unfolding after stored
     after-wider (node x) v = ap (state (counted s.tally (node x))) (hold-more s.tally.next (clause x) s.slots (cleared others) q)
     after-wider (drop n) v = ap (state (counted s.tally (drop n))) (release-more n s.slots (cleared others) (drop-held n v))
 
-    used-then : in_use s.slots ≡ s.tally.held → (r : Record) → check_record e rules s r ≡ (Ok tt) → in_use (after s r).slots ≡ (after s r).tally.held
+    used-then : in_use s.slots ≡ s.tally.held → (r : Record) → check_record e rules s r ≡ Ok tt → in_use (after s r).slots ≡ (after s r).tally.held
     unfolding after stored counted
     used-then u (node x) v = omega (arith, in_use-hold s.tally.next (clause x) s.slots q, u)
     used-then u (drop n) v = omega (arith, in_use-release n s.slots (drop-held n v), u)

@@ -61,10 +61,10 @@ module _ (e : Edition) (sheet rules : List ℕ) where
   pub refused-replay : (why : Reason) → LentRefusedFor lent why → checked ≡ Err why
   refused-replay why q = sym (fine-after checked) ∙ refused-lent lent true roomy why q
 
-  pub replay-none : checked ≡ (Ok tt) → LentFine lent
+  pub replay-none : checked ≡ Ok tt → LentFine lent
   replay-none q = lent-fine lent true roomy (fine-after checked ∙ q)
 
-  pub none-replay : LentFine lent → checked ≡ (Ok tt)
+  pub none-replay : LentFine lent → checked ≡ Ok tt
   none-replay q = sym (fine-after checked) ∙ fine-lent lent true roomy q
 
 -- ---- the end
@@ -134,7 +134,7 @@ module _ (e : Edition) (sheet rules : List ℕ) where
         omega (arith, y.fits, y.sized, counts y.mirrors, y.mirrors.used, in_use-le s.slots, peak_from-append 0 rs (drop n ∷ []))
 
     along-more : (k : ℕ) (rs : List Record) (s : State) → Along k rs s → (r : Record) → reading e true (record_at e sheet k) ≡ reads r
-        → check_record e rules s r ≡ (Ok tt) → Along (suc k) (rs ++ (r ∷ [])) (after s r)
+        → check_record e rules s r ≡ Ok tt → Along (suc k) (rs ++ (r ∷ [])) (after s r)
     along-more k rs s y r q fine =
         let (p, roomy) = fine-proper e rules rs s y.mirrors r fine in
         record {

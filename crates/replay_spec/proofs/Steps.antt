@@ -31,7 +31,7 @@ use Rattle.replay_spec.specs.Replay.{Result, refused, accepted, ending, run, sta
 -- ---- a turn
 
 module _ (e : Edition) (rules b : List ℕ) (s : State) where
-  pub turn-goes : (r : Record) → reading e true b ≡ reads r → check_record e rules s r ≡ (Ok tt) → turn e rules b s ≡ goes (after s r)
+  pub turn-goes : (r : Record) → reading e true b ≡ reads r → check_record e rules s r ≡ Ok tt → turn e rules b s ≡ goes (after s r)
   unfolding turn by_reading by_verdict
   turn-goes r q v = rw (q, v)
 
@@ -45,16 +45,16 @@ module _ (e : Edition) (rules b : List ℕ) (s : State) where
 
   -- a turn that goes has read a record, which is fine
   pub turn-went : (t : State) → turn e rules b s ≡ goes t
-      → (r : Record) × (reading e true b ≡ reads r) × (check_record e rules s r ≡ (Ok tt)) × (t ≡ after s r)
+      → (r : Record) × (reading e true b ≡ reads r) × (check_record e rules s r ≡ Ok tt) × (t ≡ after s r)
   unfolding turn by_reading by_verdict
   turn-went t g = by-reading (reading e true b) refl g
     where
-      by-verdict : (r : Record) (v : Verdict) → check_record e rules s r ≡ v → by_verdict v (after s r) ≡ goes t → (v ≡ (Ok tt)) × (t ≡ after s r)
+      by-verdict : (r : Record) (v : Verdict) → check_record e rules s r ≡ v → by_verdict v (after s r) ≡ goes t → (v ≡ Ok tt) × (t ≡ after s r)
       by-verdict r (Ok tt) q h = (refl, cc)
       by-verdict r (Err why) q h = (cc, cc)
 
       by-reading : (w : Reading) → reading e true b ≡ w → by_reading e rules s w ≡ goes t
-          → (r : Record) × (reading e true b ≡ reads r) × (check_record e rules s r ≡ (Ok tt)) × (t ≡ after s r)
+          → (r : Record) × (reading e true b ≡ reads r) × (check_record e rules s r ≡ Ok tt) × (t ≡ after s r)
       by-reading (reads r) q h = let v = by-verdict r (check_record e rules s r) refl h in (r, q, v.0, v.1)
       by-reading (unread why) q h = let z : ◌≡◌ {A = ℕ} 0 1 = cc in absurd (omega arith)
 
@@ -78,7 +78,7 @@ module _ (e : Edition) (sheet rules : List ℕ) (slots : List Slot) where
       (ap (λ (k : ℕ). run e rules sheet k 0 (start slots)) (ap (λ (k : ℕ). k / record_bytes e) l.0 ∙ record-count e (record_bytes e * n) n refl))
 
   -- past them the slots end free, whatever is answered
-  pub replay-clears : check_lengths e (replay_records e) (length sheet) (length rules) ≡ (Ok tt)
+  pub replay-clears : check_lengths e (replay_records e) (length sheet) (length rules) ≡ Ok tt
       → replay e sheet rules slots ≡ outcome (replay e sheet rules slots).answer (cleared slots)
   unfolding replay by_lengths
   replay-clears q = rw q
@@ -109,7 +109,7 @@ within-counted k t (node (step p l r c)) w = omega arith
 within-counted k t (drop n) w = omega arith
 
 pub fits-within : (e : Edition) (rules b : List ℕ) (t : Tally)
-    → check_table e (length rules) ≡ (Ok tt) → length b ≡ record_bytes e → t.next < replay_records e → t.held ≤ t.next → t.steps ≤ t.next
+    → check_table e (length rules) ≡ Ok tt → length b ≡ record_bytes e → t.next < replay_records e → t.held ≤ t.next → t.steps ≤ t.next
     → fits e (length rules) (length b) t ≡ true
 unfolding fits passes reached
 fits-within e rules b t table size few held steps =
@@ -144,7 +144,7 @@ step-by-turn e rules b k s t f q = rw f (ap (λ (x : Turn). numbered k (by_turn 
 
 -- ---- a record in a run
 
-fine-goes : (s : State) (t : Turn) → (by_turn s t).verdict ≡ (Ok tt) → t ≡ goes (by_turn s t).state
+fine-goes : (s : State) (t : Turn) → (by_turn s t).verdict ≡ Ok tt → t ≡ goes (by_turn s t).state
 unfolding by_turn
 fine-goes s (goes t) h = refl
 fine-goes s (stops why) h = cc
@@ -154,7 +154,7 @@ unfolding by_turn
 refused-stops s (goes t) why h = cc
 refused-stops s (stops x) why h = ap stops (cc)
 
-taken_fine : (k : ℕ) (v : Verdict) → answered k v ≡ taken → v ≡ (Ok tt)
+taken_fine : (k : ℕ) (v : Verdict) → answered k v ≡ taken → v ≡ Ok tt
 unfolding answered
 taken_fine k (Ok tt) h = refl
 taken_fine k (Err why) h = cc
@@ -175,7 +175,7 @@ module _ (e : Edition) (sheet rules : List ℕ) (n : ℕ) (l : Lengths e (replay
   step-turns = step-by-turn e rules (record_at e sheet k) k s (turn e rules (record_at e sheet k) s) record-fits refl
 
   -- fine: the run goes on from the state then, which is within
-  pub turn-goes-on : (m : ℕ) → (by_turn s (turn e rules (record_at e sheet k) s)).verdict ≡ (Ok tt)
+  pub turn-goes-on : (m : ℕ) → (by_turn s (turn e rules (record_at e sheet k) s)).verdict ≡ Ok tt
       → (run e rules sheet (suc m) k s ≡ run e rules sheet m (suc k) (by_turn s (turn e rules (record_at e sheet k) s)).state)
       × Within (suc k) (by_turn s (turn e rules (record_at e sheet k) s)).state.tally
   unfolding after

@@ -19,13 +19,13 @@ use Rattle.replay_spec.proofs.Steps.{after_steps, answer_at, FirstTaken, steps-w
 
 module _ (e : Edition) (rules sheet : List ℕ) (m k : ℕ) (s : State) where
   by_turn_lem : (t : Turn) → turn e rules (record_at e sheet k) s ≡ t
-      → ((by_turn s t).verdict ≡ (Ok tt) → stopped e rules sheet (suc m) k s ≡ stopped e rules sheet m (suc k) (by_turn s t).state)
+      → ((by_turn s t).verdict ≡ Ok tt → stopped e rules sheet (suc m) k s ≡ stopped e rules sheet m (suc k) (by_turn s t).state)
       × ((why : Reason) → (by_turn s t).verdict ≡ Err why → (stopped e rules sheet (suc m) k s ≡ s) × ((by_turn s t).state ≡ s))
   unfolding stopped by_turn
   by_turn_lem (goes u) q = ((λ h. rw (q, stopped)), (λ why h. (cc, cc)))
   by_turn_lem (stops x) q = ((λ h. cc), (λ why h. (rw (q, stopped), refl)))
 
-  pub stopped-goes-on : (by_turn s (turn e rules (record_at e sheet k) s)).verdict ≡ (Ok tt)
+  pub stopped-goes-on : (by_turn s (turn e rules (record_at e sheet k) s)).verdict ≡ Ok tt
       → stopped e rules sheet (suc m) k s ≡ stopped e rules sheet m (suc k) (by_turn s (turn e rules (record_at e sheet k) s)).state
   stopped-goes-on h = (by_turn_lem (turn e rules (record_at e sheet k) s) refl).0 h
 
@@ -36,7 +36,7 @@ module _ (e : Edition) (rules sheet : List ℕ) (m k : ℕ) (s : State) where
 
 -- ---- the public step, again and again
 
-taken-or-not : (k : ℕ) (v : Verdict) → (answered k v ≡ taken → v ≡ (Ok tt)) × ((answered k v ≡ taken → ⊥) → (why : Reason) × (v ≡ Err why))
+taken-or-not : (k : ℕ) (v : Verdict) → (answered k v ≡ taken → v ≡ Ok tt) × ((answered k v ≡ taken → ⊥) → (why : Reason) × (v ≡ Err why))
 unfolding answered
 taken-or-not k (Ok tt) = ((λ h. refl), (λ h. absurd (h refl)))
 taken-or-not k (Err why) = ((λ h. cc), (λ h. (why, refl)))

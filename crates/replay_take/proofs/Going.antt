@@ -32,7 +32,7 @@ pub goes_none : (e : Edition) (rules sheet : List ℕ) (slots : List Slot) (t : 
 goes_none e rules sheet slots t q =
     rw q (record { within = omega arith; left = λ m o. let all : m ≡ length sheet / record_bytes e = omega arith in rw all })
 
-passed-fine : (v : Verdict) → passes v ≡ true → v ≡ (Ok tt)
+passed-fine : (v : Verdict) → passes v ≡ true → v ≡ Ok tt
 unfolding passes
 passed-fine (Ok tt) h = refl
 passed-fine (Err why) h = cc
@@ -44,7 +44,7 @@ module _ (e : Edition) (rules sheet : List ℕ) (s₀ : State) (k : ℕ) (s : St
   unfolding run stopped
   goes-all n q o = ap (λ (a : Answer). ran a s) (ends-in n s) ∙ sym (g.left 0 (omega arith) ∙ ap (λ (i : ℕ). ran (ending i s) s) o)
 
-  module _ (h : k < length sheet / record_bytes e) (fine : check_lengths e (replay_records e) (length sheet) (length rules) ≡ (Ok tt)) where
+  module _ (h : k < length sheet / record_bytes e) (fine : check_lengths e (replay_records e) (length sheet) (length rules) ≡ Ok tt) where
     lengths : Lengths e (replay_records e) (length sheet) (length rules) (length sheet / record_bytes e)
     lengths = lengths-fine e (replay_records e) (length sheet) (length rules) fine
 

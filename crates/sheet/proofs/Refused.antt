@@ -56,13 +56,13 @@ module _ (A : Reason → Type 0) where
   first-applies (r ∷ rs) why (inl (e, a)) = rw e a
   first-applies (r ∷ rs) why (inr (n, rest)) = first-applies rs why rest
 
-  pub fine-none : (ts : List Test) → TellAll A ts → chain ts ≡ (Ok tt) → NoneOf A (reasons ts)
+  pub fine-none : (ts : List Test) → TellAll A ts → chain ts ≡ Ok tt → NoneOf A (reasons ts)
   unfolding chain unless
   fine-none [] f q = tt
   fine-none (test true r ∷ ts) f q = (f.0.1 refl, fine-none ts f.1 q)
   fine-none (test false r ∷ ts) f q = let z : ◌≡◌ {A = ℕ} 0 1 = cc in absurd (omega arith)
 
-  pub none-fine : (ts : List Test) → TellAll A ts → NoneOf A (reasons ts) → chain ts ≡ (Ok tt)
+  pub none-fine : (ts : List Test) → TellAll A ts → NoneOf A (reasons ts) → chain ts ≡ Ok tt
   unfolding chain unless
   none-fine [] f q = refl
   none-fine (test true r ∷ ts) f q = none-fine ts f.1 q.1
@@ -149,8 +149,8 @@ module _ (z : Lent) where
     pub refused-lent : (why : Reason) → LentRefusedFor z why → checked ≡ Err why
     refused-lent why q = rw (lengths-chain roomy) (first-refused (LengthApplies z) (length_tests roomy) why length-tells q)
 
-    pub lent-fine : checked ≡ (Ok tt) → LentFine z
+    pub lent-fine : checked ≡ Ok tt → LentFine z
     lent-fine q = fine-none (LengthApplies z) (length_tests roomy) length-tells (rw (lengths-chain roomy) at q)
 
-    pub fine-lent : LentFine z → checked ≡ (Ok tt)
+    pub fine-lent : LentFine z → checked ≡ Ok tt
     fine-lent q = rw (lengths-chain roomy) (none-fine (LengthApplies z) (length_tests roomy) length-tells q)

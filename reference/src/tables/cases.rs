@@ -36,7 +36,7 @@ impl How {
 
     fn plan(self, worked: &Worked) -> String {
         let passes = match self {
-            Either => "how Nothing".to_string(),
+            Either => "how None".to_string(),
             By(of, lowered) => format!("{} {}", recycling(of), lowering(lowered)),
         };
         format!("(plan {} {passes})", edition(worked.edition))

@@ -23,26 +23,24 @@ use cases::{accepts, presses, refuses, replays, replays_other, replays_pressed};
 use terms::{bytes_of, define, literals_of, record, records_of, rules_of, table, table_by_either};
 
 const STARRED: &str = r#"-- "Starred sheets are one table under a single proved statement." Made by the second program: `reference tables`.
-use Rattle.std.specs.Prelude.{ℕ, ◌^◌, List, [], ◌∷◌, ◌++◌, T, replicate}
+use Rattle.std.specs.Prelude.{ℕ, ◌^◌, List, [], ◌∷◌, ◌++◌, T, replicate, None}
 use Rattle.clause.specs.Clauses.{Literals, literals}
 use Rattle.sheet.specs.declared.edition.Edition.TheVariants.{Narrow}
 use Rattle.sheet.specs.Records.{given, step, Record, node, drop}
 use Rattle.sheet.specs.Fields.{sheet_bytes}
 use Rattle.press_spec.specs.declared.Recycling.{Recycling}
-use Rattle.press_spec.specs.declared.Lowering.TheVariants.{Nothing}
 use Rattle.press_spec.specs.declared.Order.TheVariants.{BottomUp}
 use Rattle.press_spec.specs.Plans.{plan}
 use Rattle.demands.specs.Cases.{Case, accepts, refuses, replayed, all_right}
 "#;
 
 const TELLING: &str = r#"-- Cases that tell apart what the starred sheets do not. Made by the second program: `reference tables`.
-use Rattle.std.specs.Prelude.{List, [], ◌∷◌, T, set}
+use Rattle.std.specs.Prelude.{List, [], ◌∷◌, T, set, None}
 use Rattle.clause.specs.Clauses.{Literals, literals}
 use Rattle.sheet.specs.declared.edition.Edition.TheVariants.{Narrow}
 use Rattle.sheet.specs.Records.{given, step, Record, node, drop}
 use Rattle.sheet.specs.Fields.{sheet_bytes}
 use Rattle.press_spec.specs.declared.Recycling.{Recycling}
-use Rattle.press_spec.specs.declared.Lowering.TheVariants.{Nothing}
 use Rattle.press_spec.specs.declared.Order.TheVariants.{BottomUp, TopDown}
 use Rattle.press_spec.specs.Plans.{plan}
 use Rattle.demands.specs.Cases.{Case, presses, replays, accepts, refuses, replayed, rule_table, junk, dirty, all_right}
@@ -50,13 +48,12 @@ use Rattle.demands.specs.Starred.{pair_rules, pair, irregular_rules, irregular}
 "#;
 
 const WIDE: &str = r#"-- Cases of the wide edition, most of them on variables that the narrow one does not have. Made by the second program: `reference tables`.
-use Rattle.std.specs.Prelude.{◌+◌, ◌^◌, List, [], ◌∷◌, T}
+use Rattle.std.specs.Prelude.{◌+◌, ◌^◌, List, [], ◌∷◌, T, None}
 use Rattle.clause.specs.Clauses.{Literals, literals}
 use Rattle.sheet.specs.declared.edition.Edition.TheVariants.{Narrow, Wide}
 use Rattle.sheet.specs.Records.{given, step, Record, node, drop}
 use Rattle.sheet.specs.Fields.{sheet_bytes}
 use Rattle.press_spec.specs.declared.Recycling.{Recycling}
-use Rattle.press_spec.specs.declared.Lowering.TheVariants.{Nothing}
 use Rattle.press_spec.specs.declared.Order.TheVariants.{BottomUp}
 use Rattle.press_spec.specs.Plans.{plan}
 use Rattle.demands.specs.Cases.{Case, presses, replays, accepts, refuses, replayed, rule_table, junk, clean, all_right}
@@ -65,26 +62,24 @@ use Rattle.demands.specs.Starred.{lone_rules, lone, lone_pressed}
 
 const RECYCLINGS: &str = r#"-- Sheets that the recyclings press apart, and that tell the intersection from passes that look like it. Made by the second program:
 -- `reference tables`.
-use Rattle.std.specs.Prelude.{List, [], ◌∷◌, T}
+use Rattle.std.specs.Prelude.{List, [], ◌∷◌, T, None}
 use Rattle.clause.specs.Clauses.{Literals, literals}
 use Rattle.sheet.specs.declared.edition.Edition.TheVariants.{Narrow}
 use Rattle.sheet.specs.Records.{given, step, Record, node, drop}
 use Rattle.sheet.specs.Fields.{sheet_bytes}
 use Rattle.press_spec.specs.declared.Recycling.TheVariants.{Reset, Intersection}
-use Rattle.press_spec.specs.declared.Lowering.TheVariants.{Nothing}
 use Rattle.press_spec.specs.declared.Order.TheVariants.{BottomUp}
 use Rattle.press_spec.specs.Plans.{plan}
 use Rattle.demands.specs.Cases.{Case, accepts, all_right}
 "#;
 
 const LOWERINGS: &str = r#"-- Sheets that tell lowering the units from passes that look like it. Made by the second program: `reference tables`.
-use Rattle.std.specs.Prelude.{◌+◌, ◌^◌, List, [], ◌∷◌, T}
+use Rattle.std.specs.Prelude.{◌+◌, ◌^◌, List, [], ◌∷◌, T, Some}
 use Rattle.clause.specs.Clauses.{Literals, literals}
 use Rattle.sheet.specs.declared.edition.Edition.TheVariants.{Narrow, Wide}
 use Rattle.sheet.specs.Records.{given, step, Record, node, drop}
 use Rattle.sheet.specs.Fields.{sheet_bytes}
 use Rattle.press_spec.specs.declared.Recycling.TheVariants.{Reset, Intersection}
-use Rattle.press_spec.specs.declared.Lowering.TheVariants.{Of}
 use Rattle.press_spec.specs.declared.Lowerable.TheVariants.{Units}
 use Rattle.press_spec.specs.declared.Order.TheVariants.{BottomUp, TopDown}
 use Rattle.press_spec.specs.Plans.{plan}
@@ -93,13 +88,12 @@ use Rattle.demands.specs.Cases.{Case, accepts, all_right}
 
 const UNIVALENTS: &str = r#"-- Sheets that tell lowering the univalents from lowering the units and from passes that look like it. Made by the second program:
 -- `reference tables`.
-use Rattle.std.specs.Prelude.{◌+◌, ◌^◌, List, [], ◌∷◌, T}
+use Rattle.std.specs.Prelude.{◌+◌, ◌^◌, List, [], ◌∷◌, T, Some}
 use Rattle.clause.specs.Clauses.{Literals, literals}
 use Rattle.sheet.specs.declared.edition.Edition.TheVariants.{Narrow, Wide}
 use Rattle.sheet.specs.Records.{given, step, Record, node, drop}
 use Rattle.sheet.specs.Fields.{sheet_bytes}
 use Rattle.press_spec.specs.declared.Recycling.TheVariants.{Intersection}
-use Rattle.press_spec.specs.declared.Lowering.TheVariants.{Of}
 use Rattle.press_spec.specs.declared.Lowerable.TheVariants.{Univalents}
 use Rattle.press_spec.specs.declared.Order.TheVariants.{BottomUp}
 use Rattle.press_spec.specs.Plans.{plan}
@@ -262,7 +256,7 @@ fn telling_cases() -> Vec<String> {
         replays(&either_way(), "either_way_rules", 7),
         presses(&pair(), "pair_rules", 119, 2),
         presses(&pair(), "pair_rules", 120, 1),
-        "presses (plan Narrow how Nothing) [] (rule_table Narrow pair_rules) 0 0 (2 ∷ 0 ∷ []) [] []"
+        "presses (plan Narrow how None) [] (rule_table Narrow pair_rules) 0 0 (2 ∷ 0 ∷ []) [] []"
             .to_string(),
         "replays Narrow (1 ∷ []) (1 ∷ []) 2 (1 ∷ 0 ∷ []) (dirty 2)".to_string(),
     ]);

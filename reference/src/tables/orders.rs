@@ -8,13 +8,12 @@ use crate::sheets::orders::*;
 
 const ORDERS: &str = r#"-- Sheets that tell the two orders apart, the choice between them, and the top-down order from orders that look like it. Made by the
 -- second program: `reference tables`.
-use Rattle.std.specs.Prelude.{◌^◌, List, [], ◌∷◌, T}
+use Rattle.std.specs.Prelude.{◌^◌, List, [], ◌∷◌, T, None}
 use Rattle.clause.specs.Clauses.{Literals, literals}
 use Rattle.sheet.specs.declared.edition.Edition.TheVariants.{Narrow, Wide}
 use Rattle.sheet.specs.Records.{given, step, Record, node, drop}
 use Rattle.sheet.specs.Fields.{sheet_bytes}
 use Rattle.press_spec.specs.declared.Recycling.TheVariants.{Reset, Intersection}
-use Rattle.press_spec.specs.declared.Lowering.TheVariants.{Nothing}
 use Rattle.press_spec.specs.declared.Order.TheVariants.{BottomUp, TopDown}
 use Rattle.press_spec.specs.Plans.{plan}
 use Rattle.demands.specs.Cases.{Case, accepts, all_right}

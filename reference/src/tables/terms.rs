@@ -111,9 +111,9 @@ pub(super) fn recycling(recycling: Recycling) -> &'static str {
 /// Nothing, or what is lowered, as the argument of a function.
 pub(super) fn lowering(lowering: Lowering) -> &'static str {
     match lowering {
-        Lowering::Nothing => "Nothing",
-        Lowering::Units => "(Of Units)",
-        Lowering::Univalents => "(Of Univalents)",
+        Lowering::Nothing => "None",
+        Lowering::Units => "(Some Units)",
+        Lowering::Univalents => "(Some Univalents)",
     }
 }
 

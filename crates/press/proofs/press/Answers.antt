@@ -15,7 +15,7 @@ use Rattle.press.proofs.Ready.{few-records, press-refused}
 use Rattle.press.proofs.press.Goals as goal
 
 -- where the lengths are fine there are no more nodes than the tables have room for
-few : (sheet rules out marks : List ℕ) (p : Plan) (v : Verdict) (n : ℕ) → v ≡ check_press p.edition (sizes_of (call sheet rules out marks)) → v ≡ (Ok tt)
+few : (sheet rules out marks : List ℕ) (p : Plan) (v : Verdict) (n : ℕ) → v ≡ check_press p.edition (sizes_of (call sheet rules out marks)) → v ≡ Ok tt
     → n ≡ length sheet / record_bytes p.edition → n ≤ most_nodes
 few sheet rules out marks p v n e q is = omega (arith, is, few-records p (call sheet rules out marks) (sym e ∙ q))
 
