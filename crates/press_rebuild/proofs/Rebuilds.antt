@@ -5,14 +5,10 @@ use mathlib.Core.List.{List}
 use lib.ListN.{get_or, set}
 use Rattle.clause.specs.Clauses.{Literals, none, resolvent}
 use Rattle.sheet.specs.Records.{Node, given, step, clause, node_at}
-use Rattle.press_nodes.specs.declared.fate.Cut.{Cut as CodeCut}
-use Rattle.press_nodes.specs.declared.fate.Fate.{Fate as CodeFate}
-use Rattle.press_nodes.specs.declared.fate.Fate.TheVariants.{Lost, Kept}
 use Rattle.press_rebuild.specs.declared.Way.{Way as CodeWay}
 use Rattle.press_rebuild.specs.declared.Way.TheVariants.{TakeLeft, TakeRight, StepAnew}
-use Rattle.press_spec.specs.Recycle.{Cut, Fate, kept}
-use Rattle.press_spec.specs.Rebuild.{Built, built, stand_in, standing, way_of, stands_for, new_step, by_way, renew, rebuild_turn}
-use Rattle.press_nodes.specs.Fates.{cut_in, fate_in}
+use Rattle.press_spec.specs.Recycle.{Cut, kept}
+use Rattle.press_spec.specs.Rebuild.{Built, built, stand_in, standing, way_of, stands_for, new_step, by_way, renew}
 use Rattle.press_rebuild.specs.Ways.{way_in}
 
 -- ---- the clause of a node's stand-in
@@ -70,12 +66,3 @@ module _ (s : List Node) (t : List ℕ) (n : ℕ) (z : Cut) where
       → next ≡ renew n (step p l r none) (kept z) (built s t) → next ≡ renew n (node_at s n) (kept z) (built s t)
   unfolding renew
   node-renews p l r c next e h = rw e h
-
-module _ (s : List Node) (n : ℕ) (says : ℕ → Fate) (x : CodeFate) (told : fate_in x ≡ says n) (b : Built) where
-  pub turn-lost : x ≡ Lost → b ≡ rebuild_turn s says n b
-  unfolding rebuild_turn renew fate_in
-  turn-lost q = rw (← told, q)
-
-  pub turn-renews : (cut : CodeCut) (next : Built) → x ≡ Kept cut → next ≡ renew n (node_at s n) (kept (cut_in cut)) b → next ≡ rebuild_turn s says n b
-  unfolding rebuild_turn fate_in
-  turn-renews cut next q h = rw (← told, q) h

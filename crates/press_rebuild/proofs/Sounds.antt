@@ -9,10 +9,12 @@ use Rattle.base.proofs.Folds.{rise-by, rise-next}
 use Rattle.sheet.specs.Editions.{most_lines}
 use Rattle.sheet.specs.Records.{Node, given, step, node_at}
 use Rattle.clause.specs.Denote.{width}
+use Rattle.clause.specs.declared.Clause.{Clause}
+use Rattle.press_nodes.specs.declared.link.Link.{Link as CodeLink}
 use Rattle.press_spec.specs.Links.{link, link_at}
 use Rattle.press_spec.specs.Recycle.{Fate, lost, kept}
 use Rattle.press_spec.specs.Rebuild.{Built, built, stand_in, Way, take_left, take_right, step_anew, way_of, standing, stands_for, new_step, by_way, renew, rebuild_turn, rebuild}
-use Rattle.press_nodes.specs.Tables.{links_in, clause_words, nodes_in, Sound, Nodes}
+use Rattle.press_nodes.specs.Tables.{links_in, nodes_in, Sound, Nodes}
 use Rattle.press_rebuild.specs.Ways.{StandIns}
 use Rattle.press_spec.proofs.Nodes.{Falls, Earlier, everywhere}
 use Rattle.press_nodes.proofs.Tables.{nodes-length, link-in, sound-falls}
@@ -42,7 +44,7 @@ all-numbers s f = everywhere (λ n m. Numbers m) s (λ n. omega arith) (λ n h. 
 pub sound-earlier : (s : List Node) → SoundNodes s → Earlier s
 sound-earlier s f = everywhere (λ n m. Falls n (link m)) s (λ n. tt) (λ n h. sound-falls n (link (node_at s n)) (f n h))
 
-pub nodes-sound : {h c : List ℕ} → Nodes h c → SoundNodes (nodes_in h c)
+pub nodes-sound : {h : List CodeLink} {c : List Clause} → Nodes h c → SoundNodes (nodes_in h c)
 nodes-sound {h} {c} t n i = let o : n < length h = rw (nodes-length h c) at i in rw (← (link-in h c n o)) (t.linked.sound n o)
 
 -- ---- the rebuild
@@ -78,7 +80,7 @@ module _ (s : List Node) (says : ℕ → Fate) (sound : SoundNodes s) where
 
 -- ---- its loop over the tables
 
-module _ (h c : List ℕ) (tables : Nodes h c) (says : ℕ → Fate) where
+module _ (h : List CodeLink) (c : List Clause) (tables : Nodes h c) (says : ℕ → Fate) where
   abbrev s : List Node
   s = nodes_in h c
 
@@ -115,7 +117,7 @@ module _ (h c : List ℕ) (tables : Nodes h c) (says : ℕ → Fate) where
     unfolding rebuild
     rebuild-done p q = let n : i ≡ length s = omega (arith, long) in e ∙ rw n
 
-  module _ (i : ℕ) (h' c' u : List ℕ) (e : built (nodes_in h' c') u ≡ after i) where
+  module _ (i : ℕ) (h' : List CodeLink) (c' : List Clause) (u : List ℕ) (e : built (nodes_in h' c') u ≡ after i) where
     pub link-sound : i < length h → length h' ≡ length h → Sound i (link_at (links_in h') i)
     link-sound o q =
         let o' : i < length h' = omega arith in
@@ -123,7 +125,7 @@ module _ (h c : List ℕ) (tables : Nodes h c) (says : ℕ → Fate) where
 
 -- ---- rebuilt tables are tables of sound nodes again
 
-pub rebuilt-nodes : (says : ℕ → Fate) (h c h' c' u : List ℕ) → Nodes h c → length h' ≡ length h → length c' ≡ length c
+pub rebuilt-nodes : (says : ℕ → Fate) (h : List CodeLink) (c : List Clause) (h' : List CodeLink) (c' : List Clause) (u : List ℕ) → Nodes h c → length h' ≡ length h → length c' ≡ length c
     → built (nodes_in h' c') u ≡ rebuild (nodes_in h c) says → Nodes h' c'
 rebuilt-nodes says h c h' c' u tables p q e = record {
   linked = record {
@@ -132,5 +134,5 @@ rebuilt-nodes says h c h' c' u tables p q e = record {
         let same : nodes_in h' c' ≡ (rebuild (nodes_in h c) says).nodes = ap (λ (b : Built). b.nodes) e in
         rw (link-in h' c' n i, same) (rebuilt-sound (nodes_in h c) says (nodes-sound tables) n (rw (← same, nodes-length h' c') i));
   };
-  size = q ∙ tables.size ∙ ap clause_words (sym p);
+  size = q ∙ tables.size ∙ sym p;
 }

@@ -8,14 +8,14 @@ ghost use Rattle.sheet.specs.Records.{step, node_at};
 ghost use Rattle.press_spec.specs.Links.{link_at};
 ghost use Rattle.press_spec.specs.Recycle.{kept};
 ghost use Rattle.press_spec.specs.Rebuild.{built, way_of, renew, rebuild_turn, rebuild};
-ghost use Rattle.press_nodes.specs.Tables.{links_in, clause_words, nodes_in, Sound, Nodes};
+ghost use Rattle.press_nodes.specs.Tables.{links_in, nodes_in, Sound, Nodes};
 ghost use Rattle.press_nodes.specs.Fates.{cut_in, fates_in};
 ghost use Rattle.press_rebuild.specs.Ways.{way_in, StandIns};
 
 use clause::Clause;
-use press_nodes::fate::{Cut, Fate};
+use press_nodes::fate::{Fate, Side};
 use press_nodes::link::Link;
-use press_nodes::{clause_table, clear, fate, link, node};
+use press_nodes::{clause_table, fate, link, node};
 use sheet::NodeNo;
 
 // What becomes of a step.
@@ -27,25 +27,16 @@ pub enum Way {
 }
 
 // "Left stand-in lacks +p, take it; else right lacks -p, take that; else a new step."
-fn way_of(cut: Cut, p: u8, l: Clause, r: Clause) -> Way
+#[tactic(auto, unfolding(crate::specs::Ways::way_in, press_spec::specs::Rebuild::way_of, press_nodes::specs::Fates::cut_in, clause::specs::Clauses::holds))]
+fn way_of(cut: Option<Side>, p: u8, l: Clause, r: Clause) -> Way
     ensures { way_in result ≡ way_of (cut_in cut) p (literals_of l) (literals_of r) }
 {
     match cut {
-        Cut::Left => {
-            return Way::TakeRight;
-        }
-        Cut::Right => {
-            return Way::TakeLeft;
-        }
-        Cut::None => {
-            if clause::has(l.positive, p) {
-                if clause::has(r.negative, p) {
-                    return Way::StepAnew;
-                }
-                return Way::TakeRight;
-            }
-            return Way::TakeLeft;
-        }
+        Some(Side::Left) => Way::TakeRight,
+        Some(Side::Right) => Way::TakeLeft,
+        None if !clause::has(l.positive, p) => Way::TakeLeft,
+        None if !clause::has(r.negative, p) => Way::TakeRight,
+        None => Way::StepAnew,
     }
 }
 
@@ -53,8 +44,7 @@ pub fn stand_in(stand_ins: &[u16], n: NodeNo) -> NodeNo
     requires { n.0 < length stand_ins.now }
     ensures { result.0 ≡ get_or stand_ins.now n.0 0 }
 {
-    let i = n.index();
-    NodeNo(stand_ins[i])
+    NodeNo(stand_ins[n.index()])
 }
 
 // Node n has the stand-in m, from now on.
@@ -62,22 +52,21 @@ fn stands_for(stand_ins: &mut [u16], n: NodeNo, m: NodeNo)
     requires { n.0 < length stand_ins.old }
     ensures { stand_ins.new ≡ set stand_ins.old n.0 m.0 }
 {
-    let i = n.index();
-    stand_ins[i] = m.0;
+    stand_ins[n.index()] = m.0;
 }
 
 // Node n, a step, goes its way. "A new step, which keeps the old one's number, pivot and sides."
 fn renew_step(
-    links: &mut [u64],
-    clauses: &mut [u64],
-    cut: Cut,
+    links: &mut [Link],
+    clauses: &mut [Clause],
+    cut: Option<Side>,
     n: NodeNo,
     p: u8,
     l: NodeNo,
     r: NodeNo,
     stand_ins: &mut [u16],
 )
-    requires clauses_len { (length clauses.old ≡ clause_words (length links.old)) × StandIns (length links.old) stand_ins.old }
+    requires clauses_len { (length clauses.old ≡ length links.old) × StandIns (length links.old) stand_ins.old }
     requires n_in_bounds { (n.0 < length links.old) × (l.0 < length links.old) × (r.0 < length links.old) }
     ensures { built (nodes_in links.new clauses.new) stand_ins.new ≡ renew n.0 (step p l.0 r.0 none) (kept (cut_in cut)) (built (nodes_in links.old clauses.old) stand_ins.old) }
 {
@@ -85,39 +74,30 @@ fn renew_step(
     let right = stand_in(stand_ins, r);
     let left_clause = clause_table::clause_at(clauses, left);
     let right_clause = clause_table::clause_at(clauses, right);
-    let way = way_of(cut, p, left_clause, right_clause);
-    match way {
-        Way::TakeLeft => {
-            stands_for(stand_ins, n, left);
-            return;
-        }
-        Way::TakeRight => {
-            stands_for(stand_ins, n, right);
-            return;
-        }
+    match way_of(cut, p, left_clause, right_clause) {
+        Way::TakeLeft => stands_for(stand_ins, n, left),
+        Way::TakeRight => stands_for(stand_ins, n, right),
         Way::StepAnew => {
             let result = clause::resolve(left_clause, right_clause, p);
             node::put_step(links, clauses, n, p, left, right, result);
             stands_for(stand_ins, n, n);
-            return;
         }
     }
 }
 
 // Node n, which is kept with this cut. It knows nothing of who decided the cut: a pass may decide on its way and call this at once.
 pub fn renew_node(
-    links: &mut [u64],
-    clauses: &mut [u64],
-    cut: Cut,
+    links: &mut [Link],
+    clauses: &mut [Clause],
+    cut: Option<Side>,
     n: NodeNo,
     stand_ins: &mut [u16],
 )
-    requires clauses_len { (length clauses.old ≡ clause_words (length links.old)) × StandIns (length links.old) stand_ins.old }
+    requires clauses_len { (length clauses.old ≡ length links.old) × StandIns (length links.old) stand_ins.old }
     requires n_in_bounds { (n.0 < length links.old) × Sound n.0 (link_at (links_in links.old) n.0) }
     ensures { let t = nodes_in links.old clauses.old in built (nodes_in links.new clauses.new) stand_ins.new ≡ renew n.0 (node_at t n.0) (kept (cut_in cut)) (built t stand_ins.old) }
 {
-    let found = link::link_at(links, n);
-    let Link::Join { pivot, left, right } = found else {
+    let Link::Join { pivot, left, right } = link::link_at(links, n) else {
         stands_for(stand_ins, n, n);
         return;
     };
@@ -125,34 +105,30 @@ pub fn renew_node(
 }
 
 // The turn at node n.
+#[tactic(auto, unfolding(press_spec::specs::Rebuild::rebuild_turn, press_spec::specs::Rebuild::renew, press_nodes::specs::Fates::fate_in))]
 fn rebuild_turn(
-    links: &mut [u64],
-    clauses: &mut [u64],
-    fates: &[u8],
+    links: &mut [Link],
+    clauses: &mut [Clause],
+    fates: &[Fate],
     n: NodeNo,
     stand_ins: &mut [u16],
 )
-    requires clauses_len { (length clauses.old ≡ clause_words (length links.old)) × StandIns (length links.old) stand_ins.old }
+    requires clauses_len { (length clauses.old ≡ length links.old) × StandIns (length links.old) stand_ins.old }
     requires n_in_bounds { (n.0 < length links.old) × Sound n.0 (link_at (links_in links.old) n.0) × (length fates.now ≡ length links.old) }
     ensures { let t = nodes_in links.old clauses.old in built (nodes_in links.new clauses.new) stand_ins.new ≡ rebuild_turn t (fates_in fates.now) n.0 (built t stand_ins.old) }
 {
-    let found = fate::fate_at(fates, n);
-    let Fate::Kept(cut) = found else {
-        return;
-    };
-    renew_node(links, clauses, cut, n, stand_ins);
+    if let Fate::Kept(cut) = fate::fate_at(fates, n) {
+        renew_node(links, clauses, cut, n, stand_ins);
+    }
 }
 
-pub fn rebuild(links: &mut [u64], clauses: &mut [u64], fates: &[u8], stand_ins: &mut [u16])
+pub fn rebuild(links: &mut [Link], clauses: &mut [Clause], fates: &[Fate], stand_ins: &mut [u16])
     requires nodes { Nodes links.old clauses.old }
     requires fates_len { (length fates.now ≡ length links.old) × (length stand_ins.old ≡ length links.old) }
     ensures { built (nodes_in links.new clauses.new) stand_ins.new ≡ rebuild (nodes_in links.old clauses.old) (fates_in fates.now) }
 {
-    clear::clear_numbers(stand_ins);
-    let n = links.len() as u16;
-    let mut i = 0;
-    while i < n {
+    stand_ins.fill(0);
+    for i in 0..links.len() as u16 {
         rebuild_turn(links, clauses, fates, NodeNo(i), stand_ins);
-        i += 1;
     }
 }

@@ -4,7 +4,8 @@ use borrow.Author.Rules.{rules}
 use Rattle.press_rebuild.proofs.rebuild.Goals as goal
 
 pub loop-i-init : goal.loop-i-init
-loop-i-init c = (search rules, search rules, omega arith, omega arith, search rebuild-start)
+loop-i-init c = let cleared = c.fill.ensures.after (λ y q. q) in
+    (search rules, search rules, omega arith, omega arith, search rebuild-start)
 
 pub loop-i-preserved : goal.loop-i-preserved
 loop-i-preserved c = (search rules, omega arith, omega arith, omega arith, search rebuild-next)

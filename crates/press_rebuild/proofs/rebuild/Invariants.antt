@@ -1,4 +1,4 @@
-use Prim.Native.Nat.{◌-◌, ◌≤◌}
+use Prim.Native.Nat.{◌≤◌}
 use mathlib.Core.Path.{◌≡◌}
 use lib.ListN.{length, replicate}
 use Rattle.base.specs.Folds.{rise}
@@ -16,6 +16,3 @@ invariant-loop-i l =
     × (built (nodes_in l.links l.clauses) l.stand_ins
     ≡ rise (rebuild_turn (nodes_in l.initial.links l.initial.clauses) (fates_in l.fates)) l.i
     (built (nodes_in l.initial.links l.initial.clauses) (replicate (length (nodes_in l.initial.links l.initial.clauses)) 0)))
-
-abbrev pub decreases-loop-i : goal.decreases-loop-i
-decreases-loop-i l = length l.initial.links - l.i

@@ -5,14 +5,14 @@ use Rattle.press_rebuild.proofs.Rebuilds.{node-stands, node-renews}
 use Rattle.press_rebuild.proofs.renew_node.Goals as goal
 
 pub returns-in_default : goal.returns-in_default
-returns-in_default c = let s = c in
-    node-stands _ _ _ _ _ _ _ (given-there _ _ _ _ s.requires.n_in_bounds.0 (found-leaf _ _ _ c.link_at-found.ensures c.in_default.is)) c.stands_for.ensures
+returns-in_default c =
+    node-stands _ _ _ _ _ _ _ (given-there _ _ _ _ c.requires.n_in_bounds.0 (found-leaf _ _ _ c.link_at.ensures c.in_default.is)) c.stands_for.ensures
 
 pub returns : goal.returns
-returns c = let s = c in
-    node-renews _ _ _ _ _ _ _ _ _ (step-there _ _ _ _ _ _ s.requires.n_in_bounds.0 (found-join _ _ _ _ _ c.link_at-found.ensures c.in-Join.is)) c.renew_step.ensures
+returns c =
+    node-renews _ _ _ _ _ _ _ _ _ (step-there _ _ _ _ _ _ c.requires.n_in_bounds.0 (found-join _ _ _ _ _ c.link_at.ensures c.in-Join.is)) c.renew_step.ensures
 
 pub renew_step-requires-clause-n_in_bounds : goal.renew_step-requires-clause-n_in_bounds
 renew_step-requires-clause-n_in_bounds c =
-    let o = rw (found-join _ _ _ _ _ c.link_at-found.ensures c.in-Join.is) at c.requires.n_in_bounds.1 in
+    let o = rw (found-join _ _ _ _ _ c.link_at.ensures c.in-Join.is) at c.requires.n_in_bounds.1 in
     (c.requires.n_in_bounds.0, omega arith, omega arith)
