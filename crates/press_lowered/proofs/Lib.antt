@@ -1,3 +1,2 @@
 pub mod Searched
 pub mod Tabled
-pub mod Edges

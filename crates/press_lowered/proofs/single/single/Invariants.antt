@@ -6,6 +6,3 @@ use Rattle.press_lowered.proofs.single.single.Given as goal
 
 abbrev pub invariant-loop-v : goal.invariant-loop-v
 invariant-loop-v l = (l.v ≤ l.variables) × (single l.v (literals_of l.c) ≡ single l.variables (literals_of l.c))
-
-abbrev pub decreases-loop-v : goal.decreases-loop-v
-decreases-loop-v l = l.v
