@@ -1,11 +1,10 @@
 -- What the turns of judging come to.
-use Rattle.std.specs.Prelude.{List}
+use Rattle.std.specs.Prelude.{List, Result, Ok, Err, ⊤}
 use Rattle.sheet.specs.Records.{Node}
+use Rattle.sheet.specs.declared.Refusal.{Refusal}
 use Rattle.press_spec.specs.Judge.{Judged, proper, bad}
-use Rattle.press_judge.specs.declared.Judgement.{Judgement}
-use Rattle.press_judge.specs.declared.Judgement.TheVariants as J
 
 -- a judgement, with the nodes that stand in the tables
-unfoldable pub judged_in : Judgement → List Node → Judged
-judged_in J.Proper s = proper s
-judged_in (J.Bad why k) s = bad why k.0
+unfoldable pub judged_in : Result ⊤ Refusal → List Node → Judged
+judged_in (Ok tt) s = proper s
+judged_in (Err r) s = bad r.why r.at.0

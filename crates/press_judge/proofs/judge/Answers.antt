@@ -1,8 +1,4 @@
-use mathlib.Core.Path.{◌≡◌, refl, ap, ◌∙◌}
-use mathlib.Core.List.{List}
-use Prim.Native.Nat.{ℕ, ◌+◌, ◌-◌, ◌*◌, ◌<◌}
-use native.Mathlib.Omega.{arith}
-use lib.ListN.{length, take, drop}
+use Rattle.std.proofs.Common.{◌≡◌, ℕ, ◌+◌, ◌-◌, ◌*◌, ◌<◌, List, length, take, drop, refl, ap, ◌∙◌, arith}
 use Rattle.sheet.specs.declared.edition.Edition.{Edition}
 use Rattle.sheet.specs.Editions.{record_bytes}
 use Rattle.sheet.specs.Fields.{record_at}
@@ -22,31 +18,27 @@ lent-here e sheet k {at} {size} p h q =
 
 pub loop-judged-init : goal.loop-judged-init
 loop-judged-init c =
-    (omega arith, refl, refl, c.requires.clauses_len.0, judge-begins _ _ _ (length c.args.links.now) (nodes_in c.args.links.now c.args.clauses.now) c.requires.sheet_len)
+    (refl, c.requires.clauses_len.0, judge-begins _ _ _ (length c.args.links.now) (nodes_in c.args.links.now c.args.clauses.now) c.requires.sheet_len)
 
-pub returns-in-Refused : goal.returns-in-Refused
+pub returns-in-Err : goal.returns-in-Err
 unfolding judged_in
-returns-in-Refused c = let l = c.loop-judged in
+returns-in-Err c = let l = c.loop-judged in
     let a = c.args in
-    let below : l.judged < length a.links.now = omega arith in
-    ap (bad c.in-Refused.why) c.record_of-here.ensures
-    ∙ judge-halts a.edition a.rules.now a.sheet.now (length a.links.now) l.judged below (nodes_in l.links l.clauses)
-    (nodes-length l.links l.clauses ∙ l.invariant.2) l.invariant.4 _ (lent-here a.edition a.sheet.now l.judged c.start-at.ensures c.record_of-here.ensures c.record_bytes.ensures)
-    _ c.in-Refused.why _ c.in-Refused.is c.judge_turn-verdict.ensures
+    ap (bad c.in-Err.why) c.record_of-here.ensures
+    ∙ judge-halts a.edition a.rules.now a.sheet.now (length a.links.now) l.judged c.loop-judged-test.true (nodes_in l.links l.clauses)
+    (nodes-length l.links l.clauses ∙ l.invariant.0) l.invariant.2 _ (lent-here a.edition a.sheet.now l.judged c.start-at.ensures c.record_of-here.ensures c.record_bytes.ensures)
+    _ c.in-Err.why _ c.in-Err.is c.judge_turn-verdict.ensures
 
 pub loop-judged-preserved : goal.loop-judged-preserved
 loop-judged-preserved c = let turn = c.judge_turn-verdict in
     let l = c.loop-judged in
     let a = c.args in
-    let inv = l.invariant in
-    let below : l.judged < length a.links.now = omega arith in (
-      omega arith,
-      inv.1,
-      turn.auto.links ∙ inv.2,
-      turn.auto.clauses ∙ inv.3,
-      judge-goes a.edition a.rules.now a.sheet.now (length a.links.now) l.judged below (nodes_in l.links l.clauses)
-          (nodes-length l.links l.clauses ∙ inv.2) inv.4 _ (lent-here a.edition a.sheet.now l.judged c.start-at.ensures c.record_of-here.ensures c.record_bytes.ensures)
-          _ _ c.in-Fine.is turn.ensures,
+    let inv = l.invariant in (
+      turn.auto.links ∙ inv.0,
+      turn.auto.clauses ∙ inv.1,
+      judge-goes a.edition a.rules.now a.sheet.now (length a.links.now) l.judged c.loop-judged-test.true (nodes_in l.links l.clauses)
+          (nodes-length l.links l.clauses ∙ inv.0) inv.2 _ (lent-here a.edition a.sheet.now l.judged c.start-at.ensures c.record_of-here.ensures c.record_bytes.ensures)
+          _ _ c.in_default.is turn.ensures,
     )
 
 pub returns : goal.returns
@@ -55,4 +47,4 @@ returns c = let l = c.loop-judged in
     let a = c.args in
     let inv = l.invariant in
     judge-ends a.edition a.rules.now a.sheet.now (length a.links.now) l.judged (nodes_in l.links l.clauses)
-    (nodes-length l.links l.clauses ∙ inv.2) inv.0 (omega (arith, inv.1, c.loop-judged-test.false)) inv.4
+    (nodes-length l.links l.clauses ∙ inv.0) (omega arith) (omega arith) inv.2

@@ -1,51 +1,53 @@
-use mathlib.Core.Path.{sym, ap, ◌∙◌}
-use native.Mathlib.Omega.{arith}
+use Rattle.std.proofs.Common.{sym, ap, ◌∙◌, arith, Ok}
+use Rattle.std.proofs.lemmas.Result.{err_from_is_err_and}
 use Rattle.clause.specs.Denote.{literals_of}
-use Rattle.sheet.specs.declared.Reading.TheVariants.{Reads}
-use Rattle.sheet.specs.Denote.{record_of, reading_of, verdict_of}
+use Rattle.sheet.specs.Denote.{record_of, reading_of}
 use Rattle.sheet.specs.Records.{given, step}
 use Rattle.press_nodes.specs.Tables.{nodes_in}
 use Rattle.press_record.proofs.Turning.{given-checked, turn-unread, turn-drop, Checked, turn-refused, turn-fine}
 use Rattle.press_record.proofs.judge_turn.Goals as goal
 
-pub returns-in_default : goal.returns-in_default
-unfolding reading_of verdict_of
-returns-in_default c = let told = c.in_default.is in
-    turn-unread c.args.edition c.args.rules.now c.args.bytes.now (nodes_in c.args.links.now c.args.clauses.now) c.args.k.0 _ (c.verdict_of.ensures ∙ ap (λ x. verdict_of (reading_of x)) told) (sym c.read_record-reading.ensures ∙ ap reading_of told)
+pub returns-in_err-record : goal.returns-in_err-record
+unfolding reading_of
+returns-in_err-record c =
+    let p = err_from_is_err_and c.from_residual.result c.from_residual.ensures.1 in
+    turn-unread c.args.edition c.args.rules.now c.args.bytes.now (nodes_in c.args.links.now c.args.clauses.now) c.args.k.0 _ (rw (p.1, p.2)) (sym c.read_record.ensures ∙ ap reading_of c.in_err-record.was)
 
-pub returns-in_default-verdict : goal.returns-in_default-verdict
+pub returns-in_err-check_given-in-Given : goal.returns-in_err-check_given-in-Given
 unfolding reading_of record_of
-returns-in_default-verdict c =
-    let y : Checked c.args.edition c.args.rules.now c.args.bytes.now (nodes_in c.args.links.now c.args.clauses.now) c.args.k.0 (given c.in-Given.line.0 (literals_of c.in-Given.clause)) c.check_given-verdict.result = record {
-      read = sym c.read_record-reading.ensures ∙ ap reading_of (c.in-Reads.is ∙ ap Reads c.in-Given.is);
-      says = c.check_given-verdict.ensures ∙ sym (given-checked _ _ _ _ _);
-    } in turn-refused y c.in_default-verdict.is
+returns-in_err-check_given-in-Given c =
+    let p = err_from_is_err_and c.from_residual-in_err-check_given-in-Given.result c.from_residual-in_err-check_given-in-Given.ensures.1 in
+    let y : Checked c.args.edition c.args.rules.now c.args.bytes.now (nodes_in c.args.links.now c.args.clauses.now) c.args.k.0 (given c.in-Given.line.0 (literals_of c.in-Given.clause)) c.check_given.result = record {
+      read = sym c.read_record.ensures ∙ ap reading_of (c.in_ok-record.was ∙ ap Ok c.in-Given.is);
+      says = c.check_given.ensures ∙ sym (given-checked _ _ _ _ _);
+    } in rw (p.1, p.2, ← c.in_err-check_given-in-Given.was) (turn-refused y c.in_err-check_given-in-Given.was)
 
-pub returns-in_default-verdict-2 : goal.returns-in_default-verdict-2
+pub returns-in_err-check_step-in-Step : goal.returns-in_err-check_step-in-Step
 unfolding reading_of record_of
-returns-in_default-verdict-2 c =
-    let y : Checked c.args.edition c.args.rules.now c.args.bytes.now (nodes_in c.args.links.now c.args.clauses.now) c.args.k.0 (step c.in-Step.pivot c.in-Step.left.0 c.in-Step.right.0 (literals_of c.in-Step.clause)) c.check_step-verdict.result = record {
-      read = sym c.read_record-reading.ensures ∙ ap reading_of (c.in-Reads.is ∙ ap Reads c.in-Step.is);
-      says = c.check_step-verdict.ensures c.args.edition c.args.rules.now c.args.links.now (omega (arith, c.requires.1));
-    } in turn-refused y c.in_default-verdict-2.is
+returns-in_err-check_step-in-Step c =
+    let p = err_from_is_err_and c.from_residual-in_err-check_step-in-Step.result c.from_residual-in_err-check_step-in-Step.ensures.1 in
+    let y : Checked c.args.edition c.args.rules.now c.args.bytes.now (nodes_in c.args.links.now c.args.clauses.now) c.args.k.0 (step c.in-Step.pivot c.in-Step.left.0 c.in-Step.right.0 (literals_of c.in-Step.clause)) c.check_step.result = record {
+      read = sym c.read_record.ensures ∙ ap reading_of (c.in_ok-record.was ∙ ap Ok c.in-Step.is);
+      says = c.check_step.ensures c.args.edition c.args.rules.now c.args.links.now (omega (arith, c.requires.1));
+    } in rw (p.1, p.2, ← c.in_err-check_step-in-Step.was) (turn-refused y c.in_err-check_step-in-Step.was)
 
-pub returns-in-Fine : goal.returns-in-Fine
+pub returns-in_ok-check_given-in-Given : goal.returns-in_ok-check_given-in-Given
 unfolding reading_of record_of
-returns-in-Fine c =
-    let y : Checked c.args.edition c.args.rules.now c.args.bytes.now (nodes_in c.args.links.now c.args.clauses.now) c.args.k.0 (given c.in-Given.line.0 (literals_of c.in-Given.clause)) c.check_given-verdict.result = record {
-      read = sym c.read_record-reading.ensures ∙ ap reading_of (c.in-Reads.is ∙ ap Reads c.in-Given.is);
-      says = c.check_given-verdict.ensures ∙ sym (given-checked _ _ _ _ _);
-    } in turn-fine y c.in-Fine.is c.put_given.ensures
+returns-in_ok-check_given-in-Given c =
+    let y : Checked c.args.edition c.args.rules.now c.args.bytes.now (nodes_in c.args.links.now c.args.clauses.now) c.args.k.0 (given c.in-Given.line.0 (literals_of c.in-Given.clause)) c.check_given.result = record {
+      read = sym c.read_record.ensures ∙ ap reading_of (c.in_ok-record.was ∙ ap Ok c.in-Given.is);
+      says = c.check_given.ensures ∙ sym (given-checked _ _ _ _ _);
+    } in rw (← c.in_ok-check_given-in-Given.was) (turn-fine y c.in_ok-check_given-in-Given.was c.put_given.ensures)
 
-pub returns-in-Fine-verdict : goal.returns-in-Fine-verdict
+pub returns-in_ok-check_step-in-Step : goal.returns-in_ok-check_step-in-Step
 unfolding reading_of record_of
-returns-in-Fine-verdict c =
-    let y : Checked c.args.edition c.args.rules.now c.args.bytes.now (nodes_in c.args.links.now c.args.clauses.now) c.args.k.0 (step c.in-Step.pivot c.in-Step.left.0 c.in-Step.right.0 (literals_of c.in-Step.clause)) c.check_step-verdict.result = record {
-      read = sym c.read_record-reading.ensures ∙ ap reading_of (c.in-Reads.is ∙ ap Reads c.in-Step.is);
-      says = c.check_step-verdict.ensures c.args.edition c.args.rules.now c.args.links.now (omega (arith, c.requires.1));
-    } in turn-fine y c.in-Fine-verdict.is c.put_step.ensures
+returns-in_ok-check_step-in-Step c =
+    let y : Checked c.args.edition c.args.rules.now c.args.bytes.now (nodes_in c.args.links.now c.args.clauses.now) c.args.k.0 (step c.in-Step.pivot c.in-Step.left.0 c.in-Step.right.0 (literals_of c.in-Step.clause)) c.check_step.result = record {
+      read = sym c.read_record.ensures ∙ ap reading_of (c.in_ok-record.was ∙ ap Ok c.in-Step.is);
+      says = c.check_step.ensures c.args.edition c.args.rules.now c.args.links.now (omega (arith, c.requires.1));
+    } in rw (← c.in_ok-check_step-in-Step.was) (turn-fine y c.in_ok-check_step-in-Step.was c.put_step.ensures)
 
 pub returns-in-Drop : goal.returns-in-Drop
 unfolding reading_of record_of
 returns-in-Drop c =
-    turn-drop c.args.edition c.args.rules.now c.args.bytes.now (nodes_in c.args.links.now c.args.clauses.now) c.args.k.0 _ (sym c.read_record-reading.ensures ∙ ap reading_of (c.in-Reads.is ∙ ap Reads c.in-Drop.is))
+    turn-drop c.args.edition c.args.rules.now c.args.bytes.now (nodes_in c.args.links.now c.args.clauses.now) c.args.k.0 _ (sym c.read_record.ensures ∙ ap reading_of (c.in_ok-record.was ∙ ap Ok c.in-Drop.is))
