@@ -13,9 +13,12 @@ use Rattle.clause.specs.Clauses.{plus, minus}
 use Rattle.press_spec.specs.Links.{Link, leaf, join, link_at}
 use Rattle.press_spec.specs.Trim.{trimmed}
 use Rattle.press_spec.specs.Univalents.{Used, unused, used_as, used_in, used_on}
+use Rattle.press_nodes.specs.declared.link.Link.{Link as CodeLink}
+use Rattle.press_used.specs.declared.table.Used.{Used as CodeUsed}
+use Rattle.press_used.specs.declared.table.Used.TheVariants.{Unused}
 use Rattle.press_nodes.specs.Tables.{links_in}
 use Rattle.press_nodes.proofs.Tables.{links-length}
-use Rattle.press_used.specs.Table.{use_of, use_at}
+use Rattle.press_used.specs.Table.{use_in, use_at}
 
 -- ---- one turn, by what the code finds at the node
 
@@ -35,7 +38,7 @@ module _ (s : List Link) (kept : List ℕ) (n : ℕ) where
     unfolding used_in
     use-leaf u m line h e = rw (here-kept u m h, e)
 
-    pub use-join : (t half next : List ℕ) (p l r m : ℕ) → (get_or kept i 0 ≡ 0 → ⊥) → link_at s n ≡ join p l r
+    pub use-join : (t half next : List CodeUsed) (p l r m : ℕ) → (get_or kept i 0 ≡ 0 → ⊥) → link_at s n ≡ join p l r
         → ((k : ℕ) → use_at half k ≡ used_as k r (minus p) (use_at t k)) → ((k : ℕ) → use_at next k ≡ used_as k l (plus p) (use_at half k))
         → use_at next m ≡ used_here m (use_at t m)
     unfolding used_in
@@ -64,18 +67,18 @@ none_after : (s : List Link) (kept : List ℕ) (m : ℕ) → used_after s kept (
 unfolding used_after used_on trimmed
 none_after s kept m = rw (drop-length s)
 
-none-used : (n m : ℕ) → use_at (replicate n 0) m ≡ unused
-unfolding use_at use_of
-none-used n m = rw (get_d-blank {A = ℕ} n m 0)
+none-used : (n m : ℕ) → use_at (replicate n Unused) m ≡ unused
+unfolding use_at use_in
+none-used n m = rw (get_d-blank n m Unused)
 
-module _ (h kept : List ℕ) where
+module _ (h : List CodeLink) (kept : List ℕ) where
   abbrev s : List Link
   s = links_in h
 
-  pub used_start : (t cleared : List ℕ) (m : ℕ) → cleared ≡ replicate (length t) 0 → use_at cleared m ≡ used_after s kept (length h) m
+  pub used_start : (t cleared : List CodeUsed) (m : ℕ) → cleared ≡ replicate (length t) Unused → use_at cleared m ≡ used_after s kept (length h) m
   used_start t cleared m e = rw (e, ← links-length h) (none-used (length t) m ∙ sym (none_after s kept m))
 
-  pub used-next : (i : ℕ) (t next : List ℕ) (m : ℕ) → 0 < i → i ≤ length h → length kept ≡ length h
+  pub used-next : (i : ℕ) (t next : List CodeUsed) (m : ℕ) → 0 < i → i ≤ length h → length kept ≡ length h
       → ((k : ℕ) → use_at t k ≡ used_after s kept i k) → ((k : ℕ) → use_at next k ≡ used_here s kept (i - 1) k (use_at t k))
       → use_at next m ≡ used_after s kept (i - 1) m
   used-next i t next m z o long f g =
@@ -83,6 +86,6 @@ module _ (h kept : List ℕ) where
       let one = used-from s kept (i - 1) m (omega (arith, links-length h)) (omega arith) in
       g m ∙ rw (f m) (sym (rw e at one))
 
-  pub used-done : (i : ℕ) (t : List ℕ) (m : ℕ) → i ≤ 0 → ((k : ℕ) → use_at t k ≡ used_after s kept i k) → use_at t m ≡ used_on (trimmed s kept) m
+  pub used-done : (i : ℕ) (t : List CodeUsed) (m : ℕ) → i ≤ 0 → ((k : ℕ) → use_at t k ≡ used_after s kept i k) → use_at t m ≡ used_on (trimmed s kept) m
   unfolding used_after
   used-done i t m z f = let o : i ≡ 0 = omega arith in f m ∙ rw o

@@ -7,13 +7,14 @@ ghost use Rattle.press_nodes.specs.Tables.{links_in, Links};
 ghost use Rattle.press_used.specs.Table.{use_at};
 
 use crate::table;
-use press_lowered::literal::Literal;
+use crate::table::Used;
+use press_nodes::link;
 use press_nodes::link::Link;
-use press_nodes::{clear, link};
+use press_reach::literal::Literal;
 use sheet::NodeNo;
 
 // The turn at node n: the uses in it, if it is kept.
-fn use_turn(links: &[u64], kept: &[u8], n: NodeNo, used: &mut [u16])
+fn use_turn(links: &[Link], kept: &[u8], n: NodeNo, used: &mut [Used])
     requires links { Links links.now }
     requires kept_len { (length kept.now ≡ length links.now) × (length used.old ≡ length links.now) × (n.0 < length links.now) }
     ensures { (m : ℕ) → use_at used.new m ≡ cond (eqb (get_or kept.now n.0 0) 0) (use_at used.old m) (used_in m (link_at (links_in links.now) n.0) (use_at used.old m)) }
@@ -30,15 +31,13 @@ fn use_turn(links: &[u64], kept: &[u8], n: NodeNo, used: &mut [u16])
 }
 
 // What the uses of each node are on, where these nodes are kept.
-pub fn used_on(links: &[u64], kept: &[u8], used: &mut [u16])
+pub fn used_on(links: &[Link], kept: &[u8], used: &mut [Used])
     requires links { Links links.now }
     requires kept_len { (length kept.now ≡ length links.now) × (length used.old ≡ length links.now) }
     ensures { (m : ℕ) → use_at used.new m ≡ used_on (trimmed (links_in links.now) kept.now) m }
 {
-    clear::clear_numbers(used);
-    let mut i = links.len() as u16;
-    while 0 < i {
-        i -= 1;
+    used.fill(Used::Unused);
+    for i in (0..links.len() as u16).rev() {
         use_turn(links, kept, NodeNo(i), used);
     }
 }

@@ -1,4 +1,4 @@
-use Rattle.press_lowered.specs.Literals.{literal_in}
+use Rattle.press_reach.specs.Literals.{literal_in}
 use native.Mathlib.Omega.{arith}
 use Rattle.press_nodes.proofs.Found.{found-leaf, found-join, found-sound}
 use Rattle.press_used.proofs.Walked.{use-leaf, use-join}

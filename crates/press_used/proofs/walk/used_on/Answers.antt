@@ -4,7 +4,8 @@ use borrow.Author.Rules.{rules}
 use Rattle.press_used.proofs.walk.used_on.Goals as goal
 
 pub loop-i-init : goal.loop-i-init
-loop-i-init c = (search rules, search rules, λ m. search used_start)
+loop-i-init c = let cleared = c.fill.ensures.after (λ y q. q) in
+    (search rules, search rules, λ m. search used_start)
 
 pub loop-i-preserved : goal.loop-i-preserved
 loop-i-preserved c = let l = c.loop-i in

@@ -9,6 +9,3 @@ use Rattle.press_used.proofs.walk.used_on.Given as goal
 abbrev pub invariant-loop-i : goal.invariant-loop-i
 invariant-loop-i l =
     (l.i ≤ length l.links) × (length l.used ≡ length l.links) × ((m : ℕ) → use_at l.used m ≡ used_after (links_in l.links) l.kept l.i m)
-
-abbrev pub decreases-loop-i : goal.decreases-loop-i
-decreases-loop-i l = l.i
