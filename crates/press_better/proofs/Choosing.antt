@@ -13,6 +13,8 @@ use Rattle.press_spec.specs.Better.{order_by, peak_by, better_of, better}
 use Rattle.press_spec.proofs.Ordered.{order_from-ends}
 use Rattle.press_spec.proofs.TopDown.{top_down-ends, orders-long}
 use Rattle.press_spec.proofs.Better.{better-new, better-old}
+use Rattle.clause.specs.declared.Clause.{Clause}
+use Rattle.press_nodes.specs.declared.link.Link.{Link as CodeLink}
 use Rattle.press_nodes.specs.Tables.{links_in, nodes_in, Links}
 use Rattle.press_nodes.proofs.Tables.{links-nodes, links-length, links-falling}
 use Rattle.press_order.specs.Placing.{Orderly}
@@ -22,7 +24,7 @@ use Rattle.press_lay.proofs.Laying.{links-laid}
 use Rattle.press_peak.specs.Peaks.{peak_of_links}
 use Rattle.press_peak.proofs.Peaks.{peak-of-links}
 
-module _ {h : List ℕ} (tables : Links h) (from : ℕ) (inside : from < length h) where
+module _ {h : List CodeLink} (tables : Links h) (from : ℕ) (inside : from < length h) where
   abbrev old : List ℕ
   old = order_from (links_in h) from
 
@@ -43,7 +45,7 @@ module _ {h : List ℕ} (tables : Links h) (from : ℕ) (inside : from < length 
 
 -- ---- whatever the clauses are
 
-module _ (h : List ℕ) (from : ℕ) (c : List ℕ) where
+module _ (h : List CodeLink) (from : ℕ) (c : List Clause) where
   abbrev s : List Node
   s = nodes_in h c
 
@@ -83,7 +85,7 @@ module _ (h : List ℕ) (from : ℕ) (c : List ℕ) where
 
 -- ---- what a caller asks of the better order
 
-module _ {h : List ℕ} (tables : Links h) (from : ℕ) (inside : from < length h) (c : List ℕ) where
+module _ {h : List CodeLink} (tables : Links h) (from : ℕ) (inside : from < length h) (c : List Clause) where
   pub better-orderly : Orderly h (better (nodes_in h c) from)
   unfolding better
   better-orderly = by (better_of (nodes_in h c) from)

@@ -5,11 +5,13 @@ ghost use Rattle.std.specs.Prelude.{◌≡◌, List, ℕ, ◌≤◌, ◌<◌, le
 ghost use Rattle.sheet.specs.Editions.{most_nodes};
 ghost use Rattle.press_spec.specs.Order.{order_from};
 ghost use Rattle.press_spec.specs.Better.{better_of, better};
+ghost use Rattle.clause.specs.declared.Clause.{Clause};
 ghost use Rattle.press_nodes.specs.Tables.{links_in, nodes_in, Links};
 ghost use Rattle.press_order.specs.Placing.{Numbered, Orderly};
 ghost use Rattle.press_lay.specs.Laying.{laid_links, Laying};
 ghost use Rattle.press_peak.specs.Peaks.{peak_of_links};
 
+use press_nodes::link::{BLANK, Link};
 use press_spec::Order;
 use sheet::NodeNo;
 use sheet::limits::MOST_NODES;
@@ -29,7 +31,7 @@ fn peak_by(links: &[Link], numbers: &[u16], nodes: u16) -> u16
     ensures { (order : List ℕ) → Orderly links.now order → Numbered numbers.now order → length order ≡ nodes → result ≡ peak_of_links 0 (laid_links (links_in links.now) order) }
 {
     let n = nodes as usize;
-    let mut laid = [0u64; MOST_NODES];
+    let mut laid = [BLANK; MOST_NODES];
     press_lay::links::lay_links(links, numbers, &mut laid[..n]);
     press_peak::peak_of_links(&laid[..n])
 }
@@ -38,9 +40,9 @@ fn peak_by(links: &[Link], numbers: &[u16], nodes: u16) -> u16
 pub fn better_order(links: &[Link], from: NodeNo, numbers: &mut [u16]) -> Chosen
     requires links { Links links.now }
     requires numbers_len { (length numbers.old ≡ length links.now) × (from.0 < length links.now) × (length (order_from (links_in links.now) from.0) ≤ most_nodes) }
-    ensures order { (clauses : List ℕ) → result.order ≡ better_of (nodes_in links.now clauses) from.0 }
-    ensures numbers { (clauses : List ℕ) → Numbered numbers.new (better (nodes_in links.now clauses) from.0) }
-    ensures nodes { (clauses : List ℕ) → result.nodes ≡ length (better (nodes_in links.now clauses) from.0) }
+    ensures order { (clauses : List Clause) → result.order ≡ better_of (nodes_in links.now clauses) from.0 }
+    ensures numbers { (clauses : List Clause) → Numbered numbers.new (better (nodes_in links.now clauses) from.0) }
+    ensures nodes { (clauses : List Clause) → result.nodes ≡ length (better (nodes_in links.now clauses) from.0) }
 {
     let nodes = press_order::order_from(links, from, numbers);
     let bottom_up = peak_by(links, numbers, nodes);

@@ -10,7 +10,9 @@ use lib.ListN.{length, get_or, set, length-map, get_or-eq_default}
 use lib.Seq.{get_or-set_same, get_or-set_other}
 use Rattle.clause.specs.Clauses.{Literals}
 use Rattle.sheet.specs.Records.{Node, given, step, node_at}
-use Rattle.press_nodes.specs.Tables.{links_in, clause_words, sets_in, clauses_in, changed, node_of, nodes_in, Links, Nodes}
+use Rattle.clause.specs.declared.Clause.{Clause}
+use Rattle.press_nodes.specs.declared.link.Link.{Link as CodeLink}
+use Rattle.press_nodes.specs.Tables.{links_in, clauses_in, changed, node_of, nodes_in, Links, Nodes}
 use Rattle.press_spec.specs.Links.{Link, leaf, join, link, links, link_at, Parents}
 use Rattle.press_spec.specs.Order.{placed, number_in, renumber, laid, InOrder}
 use Rattle.press_order.specs.Placing.{Numbered, Orderly}
@@ -68,7 +70,7 @@ turn-none numbers entry there n f z m i p = elim (ℕ_discrete m n) [
 ]
 
 -- the entry of a node among links: its parents go by their places
-abbrev pub relinked : List ℕ → List ℕ → ℕ → Link
+abbrev pub relinked : List ℕ → List CodeLink → ℕ → Link
 relinked numbers h m = relink (place_in numbers) (link_at (links_in h) m)
 
 module _ (numbers order : List ℕ) (numbered : Numbered numbers order) where
@@ -98,29 +100,29 @@ module _ (numbers order : List ℕ) (numbered : Numbered numbers order) where
     | no e ↦ other (place_in numbers m) (λ z. e (once m n p q z)) ∙ f m (omega arith) p
   ]
 
-  module _ (n : ℕ) (has : HasPlace numbers n) (t old new : List ℕ) where
-    pub link-turn : LaidBelow numbers (relinked numbers t) n (link_at (links_in old)) → get_or numbers n 0 ≤ length old
+  module _ (n : ℕ) (has : HasPlace numbers n) where
+    pub link-turn : (t old new : List CodeLink) → LaidBelow numbers (relinked numbers t) n (link_at (links_in old)) → get_or numbers n 0 ≤ length old
         → links_in new ≡ set (links_in old) (place_in numbers n) (relinked numbers t n) → LaidBelow numbers (relinked numbers t) (n + 1) (link_at (links_in new))
     unfolding link_at
-    link-turn f room e =
+    link-turn t old new f room e =
         turn-some (relinked numbers t) (link_at (links_in old)) (link_at (links_in new)) n f has
         (rw e (get_or-set_same (links_in old) (place_in numbers n) (relinked numbers t n) (leaf 0) (omega (arith, links-length old))))
         (λ k z. rw e (get_or-set_other (links_in old) (place_in numbers n) k (relinked numbers t n) (leaf 0) z))
 
-    pub clause-turn : LaidBelow numbers (clauses_in t) n (clauses_in old) → (x : Literals) → x ≡ clauses_in t n
+    pub clause-turn : (t old new : List Clause) → LaidBelow numbers (clauses_in t) n (clauses_in old) → (x : Literals) → x ≡ clauses_in t n
         → clauses_in new ≡ changed (place_in numbers n) x (clauses_in old) → LaidBelow numbers (clauses_in t) (n + 1) (clauses_in new)
-    clause-turn f x q e =
+    clause-turn t old new f x q e =
         turn-some (clauses_in t) (clauses_in old) (clauses_in new) n f has
         (ap (λ (g : ℕ → Literals). g (place_in numbers n)) e ∙ changed-there (place_in numbers n) (place_in numbers n) x (clauses_in old) refl ∙ q)
         (λ k z. ap (λ (g : ℕ → Literals). g k) e ∙ changed-elsewhere (place_in numbers n) k x (clauses_in old) z)
 
 -- ---- every turn
 
-module _ (h order : List ℕ) (orderly : Orderly h order) where
+module _ (h : List CodeLink) (order : List ℕ) (orderly : Orderly h order) where
   abbrev Below : ℕ → Type 0
   Below n = n < length h
 
-  of-nodes : (c : List ℕ) → InOrder (links (nodes_in h c)) Below order
+  of-nodes : (c : List Clause) → InOrder (links (nodes_in h c)) Below order
   of-nodes c = rw (links-nodes h c) orderly
 
   of-links : links (laid (nodes_in h []) order) ≡ laid_links (links_in h) order
@@ -133,7 +135,7 @@ module _ (h order : List ℕ) (orderly : Orderly h order) where
   parents-placed n p = premises-placed (links_in h) Below order orderly n p
 
   -- links that are laid out are sound again
-  pub laid-links-sound : Links h → (h₂ : List ℕ) → links_in h₂ ≡ laid_links (links_in h) order → Links h₂
+  pub laid-links-sound : Links h → (h₂ : List CodeLink) → links_in h₂ ≡ laid_links (links_in h) order → Links h₂
   laid-links-sound tables h₂ e =
       let s = nodes_in h [] in
       let same : links_in h₂ ≡ links (laid s order) = e ∙ sym of-links in
@@ -146,7 +148,7 @@ module _ (h order : List ℕ) (orderly : Orderly h order) where
       }
 
   -- and so are the tables of nodes
-  pub laid-nodes-sound : {c : List ℕ} → Nodes h c → (h₂ c₂ : List ℕ) → nodes_in h₂ c₂ ≡ laid (nodes_in h c) order → length c₂ ≡ clause_words (length h₂) → Nodes h₂ c₂
+  pub laid-nodes-sound : {c : List Clause} → Nodes h c → (h₂ : List CodeLink) (c₂ : List Clause) → nodes_in h₂ c₂ ≡ laid (nodes_in h c) order → length c₂ ≡ length h₂ → Nodes h₂ c₂
   laid-nodes-sound {c} tables h₂ c₂ e size = record {
     linked =
         laid-links-sound tables.linked h₂
@@ -176,12 +178,12 @@ module _ (h order : List ℕ) (orderly : Orderly h order) where
     pub parents-known : (n : ℕ) → HasPlace numbers n → Parents (HasPlace numbers) (link_at (links_in h) n)
     parents-known n p = known (link_at (links_in h) n) (parents-placed n (is-placed numbers order numbered n p))
 
-    module _ (h₂ : List ℕ) (room : length h₂ ≡ length order) where
+    module _ (h₂ : List CodeLink) (room : length h₂ ≡ length order) where
       -- each link stands at its place
       abbrev AtPlaces : Type 0
       AtPlaces = (m : ℕ) → placed m order ≡ true → link_at (links_in h₂) (number_in order m) ≡ relink (number_in order) (link_at (links_in h) m)
 
-      nodes-laid : AtPlaces → (c c₂ : List ℕ) → ((m : ℕ) → placed m order ≡ true → clauses_in c₂ (number_in order m) ≡ clauses_in c m)
+      nodes-laid : AtPlaces → (c c₂ : List Clause) → ((m : ℕ) → placed m order ≡ true → clauses_in c₂ (number_in order m) ≡ clauses_in c m)
           → nodes_in h₂ c₂ ≡ laid (nodes_in h c) order
       nodes-laid f c c₂ g =
           laid-whole (nodes_in h c) Below order (of-nodes c) (nodes_in h₂ c₂) (nodes-length h₂ c₂ ∙ room) (λ m p.
@@ -191,14 +193,14 @@ module _ (h order : List ℕ) (orderly : Orderly h order) where
           ∙ ap (renumber (number_in order)) (sym (nodes-at h c m (placed-inside m p))))
 
       pub all-linked : LaidBelow numbers (relinked numbers h) (length h) (link_at (links_in h₂)) → links_in h₂ ≡ laid_links (links_in h) order
-      all-linked f = sym (links-nodes h₂ []) ∙ ap links (nodes-laid at_places [] [] (λ m p. unfold clauses_in sets_in in refl)) ∙ of-links
+      all-linked f = sym (links-nodes h₂ []) ∙ ap links (nodes-laid at_places [] [] (λ m p. unfold clauses_in in refl)) ∙ of-links
         where
           at_places : AtPlaces
           at_places m p =
               rw (same_number m p) at (f m (placed-inside m p) (is_known m p)) ∙ same_numbers (link_at (links_in h) m) (parents-placed m p)
 
       -- laid links, and each clause at its node's place, are the nodes laid out
-      pub all_laid : links_in h₂ ≡ laid_links (links_in h) order → (c c₂ : List ℕ)
+      pub all_laid : links_in h₂ ≡ laid_links (links_in h) order → (c c₂ : List Clause)
           → ((n : ℕ) → HasPlace numbers n → clauses_in c₂ (place_in numbers n) ≡ clauses_in c n) → nodes_in h₂ c₂ ≡ laid (nodes_in h c) order
       all_laid e c c₂ g = nodes-laid at_places c c₂ (λ m p. rw (same_number m p) at (g m (is_known m p)))
         where

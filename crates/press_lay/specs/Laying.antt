@@ -2,6 +2,7 @@
 use Rattle.std.specs.Prelude.{ℕ, ◌-◌, ◌≤◌, ◌≡◌, List, [], ◌∷◌, ◌++◌, length, get_or}
 use Rattle.press_spec.specs.Links.{Link, leaf, join, link_at}
 use Rattle.press_spec.specs.Order.{number_in}
+use Rattle.press_nodes.specs.declared.link.Link.{Link as CodeLink}
 use Rattle.press_order.specs.Placing.{Numbered, Orderly}
 
 -- a link whose parents go by new numbers
@@ -22,7 +23,7 @@ abbrev pub place_in : List ℕ → ℕ → ℕ
 place_in numbers n = get_or numbers n 0 - 1
 
 -- what laying out may assume: some order stands in the table, with as many nodes as there is room for
-pub record Laying (links numbers : List ℕ) (room : ℕ) : Type 0 where
+pub record Laying (links : List CodeLink) (numbers : List ℕ) (room : ℕ) : Type 0 where
   pub order : List ℕ
   pub orderly : Orderly links order
   pub numbered : Numbered numbers order

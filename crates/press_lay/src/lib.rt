@@ -3,7 +3,7 @@
 #![tactic(auto)]
 
 ghost use Rattle.std.specs.Prelude.{◌≡◌, List, ℕ, length};
-ghost use Rattle.press_nodes.specs.Tables.{clause_words, nodes_in, Nodes};
+ghost use Rattle.press_nodes.specs.Tables.{nodes_in, Nodes};
 ghost use Rattle.press_spec.specs.Order.{laid};
 ghost use Rattle.press_order.specs.Placing.{Numbered, Orderly};
 ghost use Rattle.press_lay.specs.Laying.{Laying};
@@ -11,17 +11,20 @@ ghost use Rattle.press_lay.specs.Laying.{Laying};
 pub mod clauses;
 pub mod links;
 
+use clause::Clause;
+use press_nodes::link::Link;
+
 // The nodes of the order that stands in the table of numbers: the pressed tables have room for just these.
 pub fn lay(
     links: &[Link],
     clauses: &[Clause],
     numbers: &[u16],
-    pressed_links: &mut [u64],
-    pressed_clauses: &mut [u64],
+    pressed_links: &mut [Link],
+    pressed_clauses: &mut [Clause],
 )
     requires nodes { Nodes links.now clauses.now }
     requires laying { Laying links.now numbers.now (length pressed_links.old) }
-    requires numbers_len { (length numbers.now ≡ length links.now) × (length pressed_clauses.old ≡ clause_words (length pressed_links.old)) }
+    requires numbers_len { (length numbers.now ≡ length links.now) × (length pressed_clauses.old ≡ length pressed_links.old) }
     ensures { (order : List ℕ) → Orderly links.now order → Numbered numbers.now order → length order ≡ length pressed_links.old → nodes_in pressed_links.new pressed_clauses.new ≡ laid (nodes_in links.now clauses.now) order }
 {
     links::lay_links(links, numbers, pressed_links);

@@ -19,7 +19,7 @@ fn number_of(numbers: &[u16], n: NodeNo) -> NodeNo
 }
 
 // Node n at its place, its parents under their new numbers.
-fn lay_link(links: &[Link], numbers: &[u16], n: NodeNo, laid: &mut [u64])
+fn lay_link(links: &[Link], numbers: &[u16], n: NodeNo, laid: &mut [Link])
     requires n_in_bounds { (n.0 < length links.now) × HasPlace numbers.now n.0 × (get_or numbers.now n.0 0 ≤ length laid.old) }
     requires parents { Parents (HasPlace numbers.now) (link_at (links_in links.now) n.0) }
     ensures { links_in laid.new ≡ set (links_in laid.old) (place_in numbers.now n.0) (relink (place_in numbers.now) (link_at (links_in links.now) n.0)) }
@@ -39,7 +39,7 @@ fn lay_link(links: &[Link], numbers: &[u16], n: NodeNo, laid: &mut [u64])
 }
 
 // The links of the order that stands in the table of numbers: `laid` has room for just these.
-pub fn lay_links(links: &[Link], numbers: &[u16], laid: &mut [u64])
+pub fn lay_links(links: &[Link], numbers: &[u16], laid: &mut [Link])
     requires links { Links links.now }
     requires laying { Laying links.now numbers.now (length laid.old) }
     requires numbers_len { length numbers.now ≡ length links.now }

@@ -6,6 +6,7 @@ use native.Mathlib.Omega.{arith}
 use lib.ListN.{length, get_or, replicate, length-replicate}
 use Rattle.base.proofs.Lists.{get_d-blank}
 use Rattle.press_spec.specs.Links.{Link}
+use Rattle.press_nodes.specs.declared.link.Link.{Link as CodeLink}
 use Rattle.press_nodes.specs.Tables.{Links}
 use Rattle.press_spec.specs.Trim.{uses_from}
 use Rattle.press_spec.specs.Order.{placed, order_from}
@@ -16,7 +17,7 @@ pub none-stand : (numbers cleared : List ℕ) → cleared ≡ replicate (length 
 unfolding placed
 none-stand numbers cleared e = record { numbered = λ n. rw e (get_d-blank {A = ℕ} (length numbers) n 0); counts = refl }
 
-pub starts : {h : List ℕ} (t numbers cleared : List ℕ) (from : ℕ) → Links h → from < length h → length t ≡ length h
+pub starts : {h : List CodeLink} (t numbers cleared : List ℕ) (from : ℕ) → Links h → from < length h → length t ≡ length h
     → length numbers ≡ length h → cleared ≡ replicate (length numbers) 0 → Placing h t cleared from 0
 starts t numbers cleared from tables i c l e = record {
   tables = tables;

@@ -10,6 +10,7 @@ use lib.Seq.{get_or-set_same, get_or-set_other}
 use borrow.Author.Tests.{lt-ltb, le-ltb, eq-eqb, ne_eqb}
 use Rattle.base.proofs.Lists.{cond_both}
 use Rattle.sheet.specs.Editions.{capacity}
+use Rattle.press_nodes.specs.declared.link.Link.{Link as CodeLink}
 use Rattle.press_nodes.specs.Tables.{links_in, Links, Sound}
 use Rattle.press_spec.specs.Order.{placed, right_first, in_turn, premises, place, number_in}
 use Rattle.press_spec.specs.Links.{Link, leaf, join, link_at, Parents}
@@ -65,7 +66,7 @@ module _ (numbers order : List ℕ) (n : ℕ) (f : Numbered numbers order) where
 
 -- ---- sound tables
 
-module _ (h : List ℕ) (tables : Links h) where
+module _ (h : List CodeLink) (tables : Links h) where
   -- the nodes are closed under parents
   pub links-closed : (n : ℕ) → n < length h → Parents (λ k. k < length h) (link_at (links_in h) n)
   links-closed n i = falls-further n (length h) (link_at (links_in h) n) (omega arith) (links-falling tables n)
@@ -86,7 +87,7 @@ module _ (s : List Link) (t : List ℕ) where
   Places n numbers count numbers' count' =
       (order : List ℕ) (d : ℕ) → Stands numbers count order → n < d → Stands numbers' count' (place s (λ m. get_or t m 0) d n order)
 
-module _ {h t numbers : List ℕ} {n count : ℕ} (P : Placing h t numbers n count) where
+module _ {h : List CodeLink} {t numbers : List ℕ} {n count : ℕ} (P : Placing h t numbers n count) where
   abbrev s : List Link
   s = links_in h
 

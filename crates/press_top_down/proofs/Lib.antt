@@ -1,6 +1,5 @@
 pub mod Scoring
 pub mod Taking
-pub mod Turning
 pub mod Changing
 pub mod Renewing
-pub mod Halves
+pub mod Turning

@@ -1,6 +1,6 @@
 -- Scores that are worked out anew: of one node, of a chain of users, of all that a turn touches, of all nodes.
 use Prim.Native.Nat.{ℕ, suc, ◌+◌, ◌-◌, ◌≤◌, ◌<◌}
-use mathlib.Core.Path.{◌≡◌, sym, ap, ◌∙◌}
+use mathlib.Core.Path.{◌≡◌, sym, ◌∙◌}
 use mathlib.Core.Logic.{◌⊎◌, inl, inr}
 use mathlib.Core.List.{List}
 use native.Mathlib.Omega.{arith}
@@ -9,17 +9,13 @@ use lib.ListN.{length, get_or, get_or-eq_default}
 use borrow.Author.Tests.{eq-eqb, ne_eqb}
 use Rattle.press_spec.specs.Links.{Link, leaf, join, link_at}
 use Rattle.press_spec.specs.Trim.{naming, uses_in}
+use Rattle.press_nodes.specs.declared.link.Link.{Link as CodeLink}
 use Rattle.press_nodes.specs.Tables.{links_in, changed}
 use Rattle.press_nodes.proofs.Tables.{links-length}
 use Rattle.press_nodes.specs.declared.fate.Side.{Side}
 use Rattle.press_users.specs.Chains.{parent_on, Chaining}
 use Rattle.press_scores.specs.Rows.{score_words, scores_in}
 use Rattle.press_top_down.specs.Renewed.{Tables, Scored, Renewed, Names, Touched, itself, user, sharer}
-
--- the tables with other scores
-pub tables-next : {links left ahead numbers rows : List ℕ} (next : List ℕ) → Tables links left ahead numbers rows → length next ≡ score_words
-    → Tables links left ahead numbers next
-tables-next next t e = record { linked = t.linked; lefts = t.lefts; aheads = t.aheads; numbered = t.numbered; scored = e }
 
 module _ (f : ℕ → ℕ) where
   pub one-renewed : {n v : ℕ} {rows next : List ℕ} → v ≡ f n → ((m : ℕ) → scores_in next m ≡ changed n v (scores_in rows) m)
@@ -32,12 +28,6 @@ module _ (f : ℕ → ℕ) where
       | no q ↦ put m ∙ rw (ne_eqb m n q) right
     ];
   }
-
-  pub none-renewed : {Q : ℕ → Type 0} {rows : List ℕ} → ((m : ℕ) → Q m → ⊥) → Renewed f Q rows rows
-  none-renewed none = record { now-right = λ m q. absurd (none m q); still-right = λ m right. right }
-
-  pub less-renewed : {P Q : ℕ → Type 0} {rows next : List ℕ} → ((m : ℕ) → P m → Q m) → Renewed f Q rows next → Renewed f P rows next
-  less-renewed part r = record { now-right = λ m p. r.now-right m (part m p); still-right = r.still-right }
 
   pub both-renewed : {P Q R : ℕ → Type 0} {rows next last : List ℕ} → ((m : ℕ) → R m → P m ⊎ Q m)
       → Renewed f P rows next → Renewed f Q next last → Renewed f R rows last
@@ -60,8 +50,8 @@ pub record Walk (f p : ℕ → ℕ) (k q : ℕ) (start rows : List ℕ) (e : ℕ
   pub kept : (m : ℕ) → Scored f start m → Scored f rows m
 
 module _ (f p : ℕ → ℕ) (k q : ℕ) {heads nexts : List ℕ} (c : Chaining p k heads nexts) where
-  pub walk_start : (rows : List ℕ) (i : ℕ) → i ≡ q → ((m : ℕ) → k ≤ m → p m ≡ 0) → Walk f p k q rows rows (get_or heads i 0)
-  walk_start rows i same past = rw same (record {
+  pub walk_start : (rows : List ℕ) {e : ℕ} → e ≡ get_or heads q 0 → ((m : ℕ) → k ≤ m → p m ≡ 0) → Walk f p k q rows rows e
+  walk_start rows first past = rw first (record {
     inside = elim (dec_lt 0 (get_or heads q 0)) [ yes h ↦ (c.head q h).0 | no h ↦ omega arith ];
     mine = λ h. (c.head q h).1;
     newer = λ m mine. elim (dec_lt m k) [
@@ -71,51 +61,48 @@ module _ (f p : ℕ → ℕ) (k q : ℕ) {heads nexts : List ℕ} (c : Chaining 
     kept = λ m right. right;
   })
 
-  module _ {start rows next : List ℕ} {e n i : ℕ} (w : Walk f p k q start rows e) (some : 1 ≤ e) (here : n ≡ e - 1) (at : i ≡ n)
-      (renewed : Renewed f (λ m. m ≡ n) rows next) where
+  module _ {start rows : List ℕ} {n x : ℕ} (w : Walk f p k q start rows x) (here : x ≡ suc n) where
     here-mine : p n ≡ suc q
-    here-mine = rw here (w.mine some)
+    here-mine = let e : x - 1 ≡ n = omega arith in rw e at (w.mine (omega arith))
 
-    here_in : n < k
+    pub here_in : n < k
     here_in = omega (arith, w.inside)
 
-    pub walk-falls : get_or nexts i 0 < e
-    walk-falls = rw at (elim (dec_lt 0 (get_or nexts n 0)) [
+    pub walk-falls : {e : ℕ} → e ≡ get_or nexts n 0 → e < x
+    walk-falls follows = rw follows (elim (dec_lt 0 (get_or nexts n 0)) [
       | yes h ↦ omega (arith, (c.next n here_in (omega (arith, here-mine)) h).0)
       | no h ↦ omega arith
     ])
 
-    rest : (m : ℕ) → p m ≡ suc q → (m < e) ⊎ Scored f rows m → (m < get_or nexts n 0) ⊎ Scored f next m
-    rest m mine (inr right) = inr (renewed.still-right m right)
-    rest m mine (inl l) = elim (ℕ_discrete m n) [
-      | yes z ↦ inr (renewed.now-right m z)
-      | no z ↦ inl (c.older m n (omega arith) here_in (omega (arith, here-mine)) (mine ∙ sym here-mine))
-    ]
+    module _ {next : List ℕ} (renewed : Renewed f (λ m. m ≡ n) rows next) where
+      rest : (m : ℕ) → p m ≡ suc q → (m < x) ⊎ Scored f rows m → (m < get_or nexts n 0) ⊎ Scored f next m
+      rest m mine (inr right) = inr (renewed.still-right m right)
+      rest m mine (inl l) = elim (ℕ_discrete m n) [
+        | yes z ↦ inr (renewed.now-right m z)
+        | no z ↦ inl (c.older m n (omega arith) here_in (omega (arith, here-mine)) (mine ∙ sym here-mine))
+      ]
 
-    pub walk-next : Walk f p k q start next (get_or nexts i 0)
-    walk-next = rw at (record {
-      inside = omega (arith, rw at at walk-falls, w.inside);
-      mine = λ h. (c.next n here_in (omega (arith, here-mine)) h).1 ∙ here-mine;
-      newer = λ m mine. rest m mine (w.newer m mine);
-      kept = λ m right. renewed.still-right m (w.kept m right);
-    })
+      pub walk-next : {e : ℕ} → e ≡ get_or nexts n 0 → Walk f p k q start next e
+      walk-next follows = rw follows (record {
+        inside = omega (arith, walk-falls follows, w.inside);
+        mine = λ h. (c.next n here_in (omega (arith, here-mine)) h).1 ∙ here-mine;
+        newer = λ m mine. rest m mine (w.newer m mine);
+        kept = λ m right. renewed.still-right m (w.kept m right);
+      })
 
-pub walk_end : {f p : ℕ → ℕ} {k q : ℕ} {start rows : List ℕ} {e : ℕ} (n : ℕ) → e ≡ 0 → q ≡ n → Walk f p k q start rows e → Renewed f (λ m. p m ≡ suc n) start rows
-walk_end {f} {p} {k} {q} {start} {rows} {e} n z same w = record { now-right = λ m mine. by m (w.newer m (mine ∙ ap suc (sym same))); still-right = w.kept }
+pub walk_end : {f p : ℕ → ℕ} {k q x : ℕ} {start rows : List ℕ} → Walk f p k q start rows x → x ≡ 0 → Renewed f (λ m. p m ≡ suc q) start rows
+walk_end {f} {p} {k} {q} {x} {start} {rows} w none = record { now-right = λ m mine. by m (w.newer m mine); still-right = w.kept }
   where
-    by : (m : ℕ) → (m < e) ⊎ Scored f rows m → Scored f rows m
+    by : (m : ℕ) → (m < x) ⊎ Scored f rows m → Scored f rows m
     by m (inl l) = absurd (omega arith)
     by m (inr right) = right
 
 -- past the nodes there are no steps
-pub past-no-parent : (side : Side) (links : List ℕ) (m : ℕ) → length links ≤ m → parent_on side (link_at (links_in links) m) ≡ 0
+pub past-no-parent : (side : Side) (links : List CodeLink) (m : ℕ) → length links ≤ m → parent_on side (link_at (links_in links) m) ≡ 0
 unfolding parent_on link_at
 past-no-parent side links m h = rw (get_or-eq_default (links_in links) (leaf 0) {n = m} (omega (arith, links-length links)))
 
 -- ---- all that a turn touches
-
-pub many-left : (t : List ℕ) (i q : ℕ) → i ≡ q → 2 < get_or t i 0 → get_or t q 0 ≤ 2 → ⊥
-many-left t i q same many few = omega (arith, ap (λ (k : ℕ). get_or t k 0) same)
 
 named-parent : (q p l r : ℕ) → 1 ≤ uses_in q (join p l r) → (q ≡ l) ⊎ (q ≡ r)
 unfolding uses_in naming

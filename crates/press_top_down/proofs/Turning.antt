@@ -21,6 +21,7 @@ use Rattle.press_spec.proofs.Nodes.{Falling}
 use Rattle.press_spec.proofs.Trimmed.{Marked}
 use Rattle.press_spec.proofs.Gains.{uses-without, gain-by}
 use Rattle.press_spec.proofs.TopDown.{kept-few, turns-over, turn-left, turn_more}
+use Rattle.press_nodes.specs.declared.link.Link.{Link as CodeLink}
 use Rattle.press_nodes.specs.Tables.{links_in, Links}
 use Rattle.press_nodes.proofs.Tables.{links-length, links-falling}
 use Rattle.press_order.specs.Placing.{Numbered, Stands}
@@ -88,7 +89,7 @@ module _ (s : List Link) (kept order left ahead numbers : List ℕ) (long : leng
 -- ---- one turn
 
 -- after `count` turns, `best` is the node that scores most
-pub record Turn (h : List ℕ) (from : ℕ) (kept left ahead numbers : List ℕ) (count best most : ℕ) : Type 0 where
+pub record Turn (h : List CodeLink) (from : ℕ) (kept left ahead numbers : List ℕ) (count best most : ℕ) : Type 0 where
   pub tables : Links h
   pub inside : from < length h
   pub marks : kept ≡ trim (links_in h) from
@@ -97,7 +98,7 @@ pub record Turn (h : List ℕ) (from : ℕ) (kept left ahead numbers : List ℕ)
   pub found : best ≡ highest (score_in (links_in h) left ahead numbers) (length h)
   pub scores : most ≡ score_in (links_in h) left ahead numbers best
 
-module _ {h : List ℕ} {from : ℕ} {kept left ahead numbers : List ℕ} {count best most : ℕ} (T : Turn h from kept left ahead numbers count best most) where
+module _ {h : List CodeLink} {from : ℕ} {kept left ahead numbers : List ℕ} {count best most : ℕ} (T : Turn h from kept left ahead numbers count best most) where
   abbrev s : List Link
   s = links_in h
 

@@ -1,25 +1,49 @@
 -- A table of scores beside the tables that they come from: which scores are right, and which a node that is taken can change.
-use Rattle.std.specs.Prelude.{ℕ, suc, ◌*◌, ◌≤◌, ◌≡◌, ◌⊎◌, List, length, get_or, take, drop}
+use Rattle.std.specs.Prelude.{ℕ, suc, ◌≤◌, ◌≡◌, ◌⊎◌, List, length, get_or, Option, Some, None}
+use Rattle.sheet.specs.declared.NodeNo.{NodeNo}
 use Rattle.press_spec.specs.Links.{Link, link_at}
 use Rattle.press_spec.specs.Trim.{uses_in}
 use Rattle.press_nodes.specs.Tables.{links_in, Links}
+use Rattle.press_nodes.specs.declared.link.Link.{Link as CodeLink}
 use Rattle.press_nodes.specs.declared.fate.Side.TheVariants.{Left, Right}
 use Rattle.press_users.specs.Chains.{parent_on, Chain}
 use Rattle.press_scores.specs.Rows.{score_words, scores_in}
+use Rattle.press_top_down.specs.declared.score.State.{State}
+use Rattle.press_top_down.specs.declared.renew.Chains.{Chains}
+use Rattle.press_top_down.specs.declared.renew.Sides.{Sides}
+use Rattle.press_top_down.specs.Scores.{score_in}
 
 -- the tables of a turn: an entry for each node, and the scores
-pub record Tables (links left ahead numbers rows : List ℕ) : Type 0 where
+pub record Tables (links : List CodeLink) (left ahead numbers rows : List ℕ) : Type 0 where
   pub linked : Links links
   pub lefts : length left ≡ length links
   pub aheads : length ahead ≡ length links
   pub numbered : length numbers ≡ length links
   pub scored : length rows ≡ score_words
 
--- the users of each node, in chains: by their left parent in the first half of the tables, by their right one in the second
-pub record Users (links heads nexts : List ℕ) : Type 0 where
-  pub on-left : Chain Left (links_in links) (length links) (take (length links) heads) (take (length links) nexts)
-  pub on-right : Chain Right (links_in links) (length links) (drop (length links) heads) (drop (length links) nexts)
-  pub long : (length heads ≡ 2 * length links) × (length nexts ≡ 2 * length links)
+abbrev pub Standing : State → List ℕ → Type 0
+Standing t rows = Tables t.links.now t.left.now t.ahead.now t.numbers.now rows
+
+abbrev pub score_of : State → ℕ → ℕ
+score_of t = score_in (links_in t.links.now) t.left.now t.ahead.now t.numbers.now
+
+-- what an entry of a chain says: 0 is none
+abbrev pub entry_in : Option NodeNo → ℕ
+entry_in None = 0
+entry_in (Some n) = suc n.0
+
+-- the users of each node on a side, in chains
+pub record ChainsOf (links : List CodeLink) (t : Chains) : Type 0 where
+  pub chained : Chain t.side (links_in links) (length links) t.heads.now t.nexts.now
+  pub headed : length t.heads.now ≡ length links
+  pub followed : length t.nexts.now ≡ length links
+
+-- and by both of its parents
+pub record Users (links : List CodeLink) (users : Sides) : Type 0 where
+  pub on-left : ChainsOf links users.left
+  pub on-right : ChainsOf links users.right
+  pub is-left : users.left.side ≡ Left
+  pub is-right : users.right.side ≡ Right
 
 -- the table has the score of m
 abbrev pub Scored : (ℕ → ℕ) → List ℕ → ℕ → Type 0

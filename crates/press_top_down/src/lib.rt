@@ -2,7 +2,7 @@
 // nodes can be dropped at once; ties go to the smallest number, as nodes were numbered when the order began."
 #![tactic(auto)]
 
-ghost use Rattle.std.specs.Prelude.{◌≡◌, List, ◌∷◌, ℕ, ◌+◌, ◌*◌, ◌≤◌, ◌<◌, length, get_or, set, replicate};
+ghost use Rattle.std.specs.Prelude.{◌≡◌, List, ◌∷◌, ℕ, ◌+◌, ◌≤◌, ◌<◌, length, get_or, set, replicate};
 ghost use Rattle.sheet.specs.Editions.{capacity};
 ghost use Rattle.press_spec.specs.Links.{link_at};
 ghost use Rattle.press_spec.specs.Trim.{trim, naming, uses_in, uses_from};
@@ -16,16 +16,15 @@ ghost use Rattle.press_top_down.specs.Renewed.{Tables, Users, Scored};
 mod renew;
 mod score;
 
+use crate::renew::{Chains, Sides};
+use crate::score::State;
+use press_nodes::fate::Side;
+use press_nodes::link;
 use press_nodes::link::Link;
-use press_nodes::{clear, link};
 use press_scores::SCORE_WORDS;
 use press_trim::uses;
-use press_users::Side;
 use sheet::NodeNo;
 use sheet::limits::CAPACITY;
-
-// A table with an entry for each side of each node.
-const BOTH_SIDES: usize = 2 * CAPACITY;
 
 // One place fewer names node l, and one fewer node r.
 fn take_uses(ahead: &mut [u16], l: NodeNo, r: NodeNo)
@@ -46,10 +45,9 @@ fn close(links: &[Link], n: NodeNo, ahead: &mut [u16])
     requires by_index { (m : ℕ) → uses_in m (link_at (links_in links.now) n.0) ≤ get_or ahead.old m 0 }
     ensures { (m : ℕ) → get_or ahead.new m 0 + uses_in m (link_at (links_in links.now) n.0) ≡ get_or ahead.old m 0 }
 {
-    let Link::Join { left, right, .. } = link::link_at(links, n) else {
-        return;
-    };
-    take_uses(ahead, left, right);
+    if let Link::Join { left, right, .. } = link::link_at(links, n) {
+        take_uses(ahead, left, right);
+    }
 }
 
 // Node n comes next in the order, which has `count` nodes so far: how many it has then.
@@ -68,21 +66,9 @@ fn take(
     ensures ahead { (m : ℕ) → get_or ahead.new m 0 + uses_in m (link_at (links_in links.now) n.0) ≡ get_or ahead.old m 0 }
     ensures numbers { (order : List ℕ) → Stands numbers.old count order → Stands numbers.new result (n.0 ∷ order) }
 {
-    let i = n.index();
-    left[i] = 0;
+    left[n.index()] = 0;
     close(links, n, ahead);
     press_order::put_next(n, numbers, count)
-}
-
-// The users of each node: by their left parent in the first half of the tables, by their right one in the second.
-fn chains(links: &[Link], heads: &mut [u16], nexts: &mut [u16])
-    requires links { Links links.now }
-    requires heads_len { (length heads.old ≡ 2 * length links.now) × (length nexts.old ≡ 2 * length links.now) }
-    ensures { Users links.now heads.new nexts.new }
-{
-    let n = links.len();
-    press_users::chain(links, Side::Left, &mut heads[..n], &mut nexts[..n]);
-    press_users::chain(links, Side::Right, &mut heads[n..], &mut nexts[n..]);
 }
 
 // No node is placed, and each has its score.
@@ -103,57 +89,67 @@ fn begin(
     ensures scores { (m : ℕ) → Scored (score_in (links_in links.now) left.new ahead.new numbers.new) rows.new m }
 {
     uses::uses_with(links, from, left, ahead);
-    clear::clear_numbers(numbers);
-    renew::renew_all(links, left, ahead, numbers, rows);
+    numbers.fill(0);
+    let state = State {
+        links,
+        left,
+        ahead,
+        numbers,
+    };
+    state.renew_all(rows);
 }
 
-// Turns until no node can be taken.
+// Turns until no node can be taken: how many nodes are placed.
 fn turns(
     links: &[Link],
     from: NodeNo,
     left: &mut [u8],
     ahead: &mut [u16],
     numbers: &mut [u16],
-    heads: &[u16],
-    nexts: &[u16],
+    users: &Sides,
     rows: &mut [u64],
 ) -> u16
     requires tables { Tables links.now left.old ahead.old numbers.old rows.old }
-    requires users { Users links.now heads.now nexts.now }
+    requires users { Users links.now users.now }
     requires from_in_bounds { from.0 < length links.now }
     requires by_index { (m : ℕ) → scores_in rows.old m ≡ 0 }
     ensures { Stands numbers.new result (top_down (links_in links.now) from.0) }
 {
     begin(links, from, left, ahead, numbers, rows);
     let mut count = 0;
-    loop {
-        let best = press_scores::highest(rows);
-        if best.score == 0 {
-            return count;
-        }
+    while let Some(best) = press_scores::highest(rows) {
         count = take(links, best.node, left, ahead, numbers, count);
-        renew::renew_touched(links, left, ahead, numbers, heads, nexts, best.node, rows);
+        let state = State {
+            links,
+            left,
+            ahead,
+            numbers,
+        };
+        state.renew_touched(users, best.node, rows);
     }
+    count
 }
 
-// The order, with the tables that its turns need.
-fn ordered(
-    links: &[Link],
-    from: NodeNo,
-    left: &mut [u8],
-    ahead: &mut [u16],
-    numbers: &mut [u16],
-    heads: &mut [u16],
-    nexts: &mut [u16],
-) -> u16
+// The order, with the tables that its turns need beside those of the users.
+fn ordered(links: &[Link], from: NodeNo, users: &Sides, numbers: &mut [u16]) -> u16
     requires links { Links links.now }
-    requires left_len { (length left.old ≡ length links.now) × (length ahead.old ≡ length links.now) × (length numbers.old ≡ length links.now) × (from.0 < length links.now) }
-    requires heads_len { (length heads.old ≡ 2 * length links.now) × (length nexts.old ≡ 2 * length links.now) }
+    requires users { Users links.now users.now }
+    requires numbers_len { (length numbers.old ≡ length links.now) × (from.0 < length links.now) }
     ensures { Stands numbers.new result (top_down (links_in links.now) from.0) }
 {
-    chains(links, heads, nexts);
+    let mut left = [0u8; CAPACITY];
+    let mut ahead = [0u16; CAPACITY];
     let mut rows = [0u64; SCORE_WORDS];
-    turns(links, from, left, ahead, numbers, heads, nexts, &mut rows)
+    let n = links.len();
+    turns(
+        links,
+        from,
+        &mut left[..n],
+        &mut ahead[..n],
+        numbers,
+        users,
+        &mut rows,
+    )
 }
 
 // The places of what a node reaches, and how many there are.
@@ -163,19 +159,34 @@ pub fn top_down(links: &[Link], from: NodeNo, numbers: &mut [u16]) -> u16
     ensures numbers { Numbered numbers.new (top_down (links_in links.now) from.0) }
     ensures count { result ≡ length (top_down (links_in links.now) from.0) }
 {
-    let mut left = [0u8; CAPACITY];
-    let mut ahead = [0u16; CAPACITY];
-    let mut heads = [0u16; BOTH_SIDES];
-    let mut nexts = [0u16; BOTH_SIDES];
+    let mut left_heads = [0u16; CAPACITY];
+    let mut left_nexts = [0u16; CAPACITY];
+    let mut right_heads = [0u16; CAPACITY];
+    let mut right_nexts = [0u16; CAPACITY];
     let n = links.len();
-    let both = 2 * n;
-    ordered(
+    press_users::chain(
         links,
-        from,
-        &mut left[..n],
-        &mut ahead[..n],
-        numbers,
-        &mut heads[..both],
-        &mut nexts[..both],
-    )
+        Side::Left,
+        &mut left_heads[..n],
+        &mut left_nexts[..n],
+    );
+    press_users::chain(
+        links,
+        Side::Right,
+        &mut right_heads[..n],
+        &mut right_nexts[..n],
+    );
+    let users = Sides {
+        left: Chains {
+            side: Side::Left,
+            heads: &left_heads[..n],
+            nexts: &left_nexts[..n],
+        },
+        right: Chains {
+            side: Side::Right,
+            heads: &right_heads[..n],
+            nexts: &right_nexts[..n],
+        },
+    };
+    ordered(links, from, &users, numbers)
 }

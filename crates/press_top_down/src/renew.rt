@@ -4,164 +4,111 @@
 ghost use Rattle.std.specs.Prelude.{◌≡◌, ℕ, suc, ◌≤◌, ◌<◌, length, get_or};
 ghost use Rattle.press_spec.specs.Links.{link_at};
 ghost use Rattle.press_nodes.specs.Tables.{links_in};
-ghost use Rattle.press_users.specs.Chains.{parent_on, Chain};
+ghost use Rattle.press_users.specs.Chains.{parent_on};
 ghost use Rattle.press_scores.specs.Rows.{scores_in};
-ghost use Rattle.press_top_down.specs.Scores.{score_in};
-ghost use Rattle.press_top_down.specs.Renewed.{Tables, Users, Scored, Renewed, Names, Touched};
+ghost use Rattle.press_top_down.specs.Renewed.{entry_in, Standing, score_of, ChainsOf, Users, Scored, Renewed, Names, Touched};
 
-use crate::score;
+use crate::score::State;
+use press_nodes::fate::Side;
 use press_nodes::link;
 use press_nodes::link::Link;
-use press_users::Side;
 use sheet::NodeNo;
 
-// The score of one node.
-fn renew(links: &[Link], left: &[u8], ahead: &[u16], numbers: &[u16], n: NodeNo, rows: &mut [u64])
-    requires tables { Tables links.now left.now ahead.now numbers.now rows.old }
-    requires n_in_bounds { n.0 < length links.now }
-    ensures { Renewed (score_in (links_in links.now) left.now ahead.now numbers.now) (λ m. m ≡ n.0) rows.old rows.new }
-{
-    let score = score::score(links, left, ahead, numbers, n);
-    press_scores::put_score(rows, n, score);
+// The steps that name each node on one side, in chains, as `press_users` makes them.
+#[derive(Clone, Copy)]
+pub(crate) struct Chains<'a> {
+    pub(crate) side: Side,
+    pub(crate) heads: &'a [u16],
+    pub(crate) nexts: &'a [u16],
 }
 
-// The scores of the steps that have q for their parent on a side. Which side it is only the contract asks: the tables have the chains of that side.
-fn renew_chain(
-    links: &[Link],
-    left: &[u8],
-    ahead: &[u16],
-    numbers: &[u16],
-    side: Side,
-    heads: &[u16],
-    nexts: &[u16],
-    q: NodeNo,
-    rows: &mut [u64],
-)
-    requires tables { Tables links.now left.now ahead.now numbers.now rows.old }
-    requires chain { Chain side (links_in links.now) (length links.now) heads.now nexts.now }
-    requires heads_len { (length heads.now ≡ length links.now) × (length nexts.now ≡ length links.now) × (q.0 < length links.now) }
-    ensures { Renewed (score_in (links_in links.now) left.now ahead.now numbers.now) (λ m. parent_on side (link_at (links_in links.now) m) ≡ suc q.0) rows.old rows.new }
+#[derive(Clone, Copy)]
+pub(crate) struct Sides<'a> {
+    pub(crate) left: Chains<'a>,
+    pub(crate) right: Chains<'a>,
+}
+
+// The node that an entry of a chain stands for: 0 is none.
+fn entry(chain: &[u16], n: NodeNo) -> Option<NodeNo>
+    requires { n.0 < length chain.now }
+    ensures { entry_in result ≡ get_or chain.now n.0 0 }
 {
-    let i = q.index();
-    let mut user = heads[i];
-    while user != 0 {
-        let n = NodeNo(user - 1);
-        renew(links, left, ahead, numbers, n, rows);
-        let k = n.index();
-        user = nexts[k];
+    match chain[n.index()] {
+        0 => None,
+        user => Some(NodeNo(user - 1)),
     }
 }
 
-// The scores of the steps that name q.
-fn renew_users(
-    links: &[Link],
-    left: &[u8],
-    ahead: &[u16],
-    numbers: &[u16],
-    heads: &[u16],
-    nexts: &[u16],
-    q: NodeNo,
-    rows: &mut [u64],
-)
-    requires tables { Tables links.now left.now ahead.now numbers.now rows.old }
-    requires users { Users links.now heads.now nexts.now }
-    requires q_in_bounds { q.0 < length links.now }
-    ensures { Renewed (score_in (links_in links.now) left.now ahead.now numbers.now) (Names (links_in links.now) q.0) rows.old rows.new }
-{
-    let n = links.len();
-    renew_chain(
-        links,
-        left,
-        ahead,
-        numbers,
-        Side::Left,
-        &heads[..n],
-        &nexts[..n],
-        q,
-        rows,
-    );
-    renew_chain(
-        links,
-        left,
-        ahead,
-        numbers,
-        Side::Right,
-        &heads[n..],
-        &nexts[n..],
-        q,
-        rows,
-    );
-}
-
-// The scores of the steps that name q, unless 3 places or more do: then none of them gains by q, now as before.
-fn renew_sharers(
-    links: &[Link],
-    left: &[u8],
-    ahead: &[u16],
-    numbers: &[u16],
-    heads: &[u16],
-    nexts: &[u16],
-    q: NodeNo,
-    rows: &mut [u64],
-)
-    requires tables { Tables links.now left.now ahead.now numbers.now rows.old }
-    requires users { Users links.now heads.now nexts.now }
-    requires q_in_bounds { q.0 < length links.now }
-    ensures { Renewed (score_in (links_in links.now) left.now ahead.now numbers.now) (λ m. (get_or ahead.now q.0 0 ≤ 2) × Names (links_in links.now) q.0 m) rows.old rows.new }
-{
-    let i = q.index();
-    if 2 < ahead[i] {
-        return;
+impl State<'_> {
+    // The score of one node.
+    fn renew(&self, n: NodeNo, rows: &mut [u64])
+        requires tables { Standing self.now rows.old }
+        requires n_in_bounds { n.0 < length self.now.links.now }
+        ensures { Renewed (score_of self.now) (λ m. m ≡ n.0) rows.old rows.new }
+    {
+        press_scores::put_score(rows, n, self.score(n));
     }
-    renew_users(links, left, ahead, numbers, heads, nexts, q, rows);
-}
 
-// The scores that taking node n, which is placed now, can change.
-pub(crate) fn renew_touched(
-    links: &[Link],
-    left: &[u8],
-    ahead: &[u16],
-    numbers: &[u16],
-    heads: &[u16],
-    nexts: &[u16],
-    n: NodeNo,
-    rows: &mut [u64],
-)
-    requires tables { Tables links.now left.now ahead.now numbers.now rows.old }
-    requires users { Users links.now heads.now nexts.now }
-    requires n_in_bounds { n.0 < length links.now }
-    ensures { Renewed (score_in (links_in links.now) left.now ahead.now numbers.now) (Touched (links_in links.now) ahead.now n.0) rows.old rows.new }
-{
-    renew(links, left, ahead, numbers, n, rows);
-    renew_users(links, left, ahead, numbers, heads, nexts, n, rows);
-    let Link::Join {
-        left: l,
-        right: r,
-        ..
-    } = link::link_at(links, n)
-    else {
-        return;
-    };
-    renew_sharers(links, left, ahead, numbers, heads, nexts, l, rows);
-    renew_sharers(links, left, ahead, numbers, heads, nexts, r, rows);
-}
+    // The scores of the steps that have q for their parent on the side of these chains.
+    fn renew_chain(&self, chains: &Chains, q: NodeNo, rows: &mut [u64])
+        requires tables { Standing self.now rows.old }
+        requires chains { ChainsOf self.now.links.now chains.now }
+        requires q_in_bounds { q.0 < length self.now.links.now }
+        ensures { Renewed (score_of self.now) (λ m. parent_on chains.now.side (link_at (links_in self.now.links.now) m) ≡ suc q.0) rows.old rows.new }
+    {
+        let mut user = entry(chains.heads, q);
+        while let Some(n) = user {
+            self.renew(n, rows);
+            user = entry(chains.nexts, n);
+        }
+    }
 
-// The scores of all nodes, in a table that has none yet.
-pub(crate) fn renew_all(
-    links: &[Link],
-    left: &[u8],
-    ahead: &[u16],
-    numbers: &[u16],
-    rows: &mut [u64],
-)
-    requires tables { Tables links.now left.now ahead.now numbers.now rows.old }
-    requires by_index { (m : ℕ) → scores_in rows.old m ≡ 0 }
-    ensures { (m : ℕ) → Scored (score_in (links_in links.now) left.now ahead.now numbers.now) rows.new m }
-{
-    let end = links.len() as u16;
-    let mut i = 0;
-    while i < end {
-        renew(links, left, ahead, numbers, NodeNo(i), rows);
-        i += 1;
+    // The scores of the steps that name q.
+    fn renew_users(&self, users: &Sides, q: NodeNo, rows: &mut [u64])
+        requires tables { Standing self.now rows.old }
+        requires users { Users self.now.links.now users.now }
+        requires q_in_bounds { q.0 < length self.now.links.now }
+        ensures { Renewed (score_of self.now) (Names (links_in self.now.links.now) q.0) rows.old rows.new }
+    {
+        self.renew_chain(&users.left, q, rows);
+        self.renew_chain(&users.right, q, rows);
+    }
+
+    // The scores of the steps that name q, unless 3 places or more do: then none of them gains by q, now as before.
+    fn renew_sharers(&self, users: &Sides, q: NodeNo, rows: &mut [u64])
+        requires tables { Standing self.now rows.old }
+        requires users { Users self.now.links.now users.now }
+        requires q_in_bounds { q.0 < length self.now.links.now }
+        ensures { Renewed (score_of self.now) (λ m. (get_or self.now.ahead.now q.0 0 ≤ 2) × Names (links_in self.now.links.now) q.0 m) rows.old rows.new }
+    {
+        if self.ahead[q.index()] <= 2 {
+            self.renew_users(users, q, rows);
+        }
+    }
+
+    // The scores that taking node n, which is placed now, can change.
+    pub(crate) fn renew_touched(&self, users: &Sides, n: NodeNo, rows: &mut [u64])
+        requires tables { Standing self.now rows.old }
+        requires users { Users self.now.links.now users.now }
+        requires n_in_bounds { n.0 < length self.now.links.now }
+        ensures { Renewed (score_of self.now) (Touched (links_in self.now.links.now) self.now.ahead.now n.0) rows.old rows.new }
+    {
+        self.renew(n, rows);
+        self.renew_users(users, n, rows);
+        if let Link::Join { left, right, .. } = link::link_at(self.links, n) {
+            self.renew_sharers(users, left, rows);
+            self.renew_sharers(users, right, rows);
+        }
+    }
+
+    // The scores of all nodes, in a table that has none yet.
+    pub(crate) fn renew_all(&self, rows: &mut [u64])
+        requires tables { Standing self.now rows.old }
+        requires by_index { (m : ℕ) → scores_in rows.old m ≡ 0 }
+        ensures { (m : ℕ) → Scored (score_of self.now) rows.new m }
+    {
+        for i in 0..self.links.len() {
+            self.renew(NodeNo(i as u16), rows);
+        }
     }
 }

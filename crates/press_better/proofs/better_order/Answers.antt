@@ -6,6 +6,8 @@ use Rattle.press_spec.specs.declared.Order.TheVariants.{BottomUp, TopDown}
 use Rattle.press_spec.specs.Order.{order_from}
 use Rattle.press_spec.specs.TopDown.{top_down}
 use Rattle.press_spec.specs.Better.{better_of, better}
+use Rattle.clause.specs.declared.Clause.{Clause}
+use Rattle.press_nodes.specs.declared.link.Link.{Link as CodeLink}
 use Rattle.press_nodes.specs.Tables.{links_in, nodes_in, Links}
 use Rattle.press_order.specs.Placing.{Numbered, Orderly}
 use Rattle.press_lay.specs.Laying.{laid_links}
@@ -14,7 +16,7 @@ use Rattle.press_better.proofs.Choosing.{old-orderly, new-orderly, as_long, choo
 use Rattle.press_better.proofs.better_order.Goals as goal
 
 -- both orders in turn, each in the same table: how many nodes they have, their peaks, and where they stand
-module _ (links : List ℕ) (from nodes a b : ℕ) (first second : List ℕ) (tables : Links links) (inside : from < length links)
+module _ (links : List CodeLink) (from nodes a b : ℕ) (first second : List ℕ) (tables : Links links) (inside : from < length links)
     (count : nodes ≡ length (order_from (links_in links) from))
     (one : (order : List ℕ) → Orderly links order → Numbered first order → length order ≡ nodes → a ≡ peak_of_links 0 (laid_links (links_in links) order))
     (two : (order : List ℕ) → Orderly links order → Numbered second order → length order ≡ nodes → b ≡ peak_of_links 0 (laid_links (links_in links) order))
@@ -25,16 +27,16 @@ module _ (links : List ℕ) (from nodes a b : ℕ) (first second : List ℕ) (ta
   top-down : b ≡ peak_of_links 0 (laid_links (links_in links) (top_down (links_in links) from))
   top-down = two _ (new-orderly tables from inside) new-stands (as_long tables from inside ∙ sym count)
 
-  takes-new : b < a → (c : List ℕ) → TopDown ≡ better_of (nodes_in links c) from
+  takes-new : b < a → (c : List Clause) → TopDown ≡ better_of (nodes_in links c) from
   takes-new h c = chooses-new links from c _ _ bottom-up top-down h
 
-  takes-old : a ≤ b → (c : List ℕ) → BottomUp ≡ better_of (nodes_in links c) from
+  takes-old : a ≤ b → (c : List Clause) → BottomUp ≡ better_of (nodes_in links c) from
   takes-old h c = chooses-old links from c _ _ bottom-up top-down h
 
-  is-new : b < a → (c : List ℕ) → better (nodes_in links c) from ≡ top_down (links_in links) from
+  is-new : b < a → (c : List Clause) → better (nodes_in links c) from ≡ top_down (links_in links) from
   is-new h c = better-is-new links from c (takes-new h c)
 
-  is-old : a ≤ b → (c : List ℕ) → better (nodes_in links c) from ≡ order_from (links_in links) from
+  is-old : a ≤ b → (c : List Clause) → better (nodes_in links c) from ≡ order_from (links_in links) from
   is-old h c = better-is-old links from c (takes-old h c)
 
 pub peak_by-bottom_up-requires-clause-laying : goal.peak_by-bottom_up-requires-clause-laying

@@ -6,8 +6,8 @@ use Rattle.press_top_down.proofs.close.Goals as goal
 pub returns-in_default : goal.returns-in_default
 returns-in_default c = let e = found-leaf _ _ _ c.link_at.ensures c.in_default.is in λ m. search close-leaf
 
-pub returns : goal.returns
-returns c = let e = found-join _ _ _ _ _ c.link_at.ensures c.in-Join.is in λ m. search close-join
+pub returns-in-Join : goal.returns-in-Join
+returns-in-Join c = let e = found-join _ _ _ _ _ c.link_at.ensures c.in-Join.is in λ m. search close-join
 
 pub take_uses-requires-clause-l_in_bounds : goal.take_uses-requires-clause-l_in_bounds
 take_uses-requires-clause-l_in_bounds c =

@@ -1,11 +1,12 @@
 use Prim.Native.Nat.{ℕ, ◌<◌}
-use mathlib.Core.Path.{◌≡◌, ◌∙◌}
+use mathlib.Core.Path.{◌≡◌, refl, sym, ◌∙◌}
 use mathlib.Core.List.{List}
 use native.Mathlib.Omega.{arith}
 use lib.ListN.{length}
 use Rattle.sheet.specs.Editions.{capacity}
 use Rattle.press_spec.specs.Trim.{trim}
 use Rattle.press_spec.specs.TopDown.{highest}
+use Rattle.press_nodes.specs.declared.link.Link.{Link as CodeLink}
 use Rattle.press_nodes.specs.Tables.{links_in}
 use Rattle.press_scores.specs.Rows.{scores_in}
 use Rattle.press_top_down.specs.Scores.{score_in}
@@ -15,7 +16,7 @@ use Rattle.press_top_down.proofs.Turning.{Turning, Turn, turns-start, turns-end,
 use Rattle.press_top_down.proofs.turns.Goals as goal
 
 -- what a turn finds
-turn-found : {links kept left ahead numbers rows : List ℕ} {from count best most : ℕ} → Tables links left ahead numbers rows → from < length links → kept ≡ trim (links_in links) from
+turn-found : {links : List CodeLink} {kept left ahead numbers rows : List ℕ} {from count best most : ℕ} → Tables links left ahead numbers rows → from < length links → kept ≡ trim (links_in links) from
     → Turning (links_in links) kept left ahead numbers count × ((m : ℕ) → Scored (score_in (links_in links) left ahead numbers) rows m)
     → best ≡ highest (scores_in rows) capacity → most ≡ scores_in rows best → Turn links from kept left ahead numbers count best most
 turn-found {left = left} {rows = rows} tables inside marks now found scores = record {
@@ -36,41 +37,41 @@ loop-best-init c = let t = c.requires.tables in
       b.ensures.scores,
     )
 
-pub returns-then-best-eq0 : goal.returns-then-best-eq0
-returns-then-best-eq0 c = let v = c.loop-best.invariant in
-    let h = c.highest-best.ensures in
-    turns-end (turn-found v.0 c.requires.from_in_bounds c.begin.ensures.left (v.1, v.2) h.node h.score) c.if-best-eq0.true
+pub returns : goal.returns
+returns c =
+    let v = c.loop-best.invariant in
+    turns-end (turn-found v.0 c.requires.from_in_bounds c.begin.ensures.left (v.1, v.2) refl (sym c.in_default.ensures.none)) refl
 
 pub take-count-requires-clause-left_len : goal.take-count-requires-clause-left_len
 take-count-requires-clause-left_len c = let v = c.loop-best.invariant in
-    let h = c.highest-best.ensures in
-    let f = turn-found v.0 c.requires.from_in_bounds c.begin.ensures.left (v.1, v.2) h.node h.score in
-    let some = c.if-best-eq0.false in
+    let h = c.in-Some.ensures.some in
+    let f = turn-found v.0 c.requires.from_in_bounds c.begin.ensures.left (v.1, v.2) h.0 h.1 in
+    let some : c.in-Some.best.score ≡ 0 → ⊥ = λ z. omega (arith, h.2) in
     (v.0.lefts, v.0.aheads, v.0.numbered, best-inside f some, (turn-fits f some).1)
 
 pub take-count-requires-clause-by_index : goal.take-count-requires-clause-by_index
 take-count-requires-clause-by_index c = let v = c.loop-best.invariant in
-    let h = c.highest-best.ensures in
-    uses-left (turn-found v.0 c.requires.from_in_bounds c.begin.ensures.left (v.1, v.2) h.node h.score) c.if-best-eq0.false
+    let h = c.in-Some.ensures.some in
+    uses-left (turn-found v.0 c.requires.from_in_bounds c.begin.ensures.left (v.1, v.2) h.0 h.1) (λ z. omega (arith, h.2))
 
 pub renew_touched-requires-clause-n_in_bounds : goal.renew_touched-requires-clause-n_in_bounds
 renew_touched-requires-clause-n_in_bounds c = let v = c.loop-best.invariant in
-    let h = c.highest-best.ensures in
-    best-inside (turn-found v.0 c.requires.from_in_bounds c.begin.ensures.left (v.1, v.2) h.node h.score) c.if-best-eq0.false
+    let h = c.in-Some.ensures.some in
+    best-inside (turn-found v.0 c.requires.from_in_bounds c.begin.ensures.left (v.1, v.2) h.0 h.1) (λ z. omega (arith, h.2))
 
 pub loop-best-smaller : goal.loop-best-smaller
 loop-best-smaller c = let v = c.loop-best.invariant in
-    let h = c.highest-best.ensures in
-    let f = turn-found v.0 c.requires.from_in_bounds c.begin.ensures.left (v.1, v.2) h.node h.score in
-    let some = c.if-best-eq0.false in
+    let h = c.in-Some.ensures.some in
+    let f = turn-found v.0 c.requires.from_in_bounds c.begin.ensures.left (v.1, v.2) h.0 h.1 in
+    let some : c.in-Some.best.score ≡ 0 → ⊥ = λ z. omega (arith, h.2) in
     omega (arith, (turn-fits f some).0, one_more f some c.take-count.ensures.numbers)
 
 pub loop-best-preserved : goal.loop-best-preserved
 loop-best-preserved c = let v = c.loop-best.invariant in
     let t = v.0 in
-    let h = c.highest-best.ensures in
-    let f = turn-found v.0 c.requires.from_in_bounds c.begin.ensures.left (v.1, v.2) h.node h.score in
-    let some = c.if-best-eq0.false in
+    let h = c.in-Some.ensures.some in
+    let f = turn-found v.0 c.requires.from_in_bounds c.begin.ensures.left (v.1, v.2) h.0 h.1 in
+    let some : c.in-Some.best.score ≡ 0 → ⊥ = λ z. omega (arith, h.2) in
     let k = c.take-count in
     let y = c.renew_touched in (
       record { linked = t.linked; lefts = k.auto.left ∙ t.lefts; aheads = k.auto.ahead ∙ t.aheads; numbered = k.auto.numbers ∙ t.numbered; scored = y.auto.rows ∙ t.scored },
