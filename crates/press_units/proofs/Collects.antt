@@ -1,9 +1,8 @@
 -- One turn of collecting, by what the code finds at the node; and the walk over the tables is the walk over the nodes.
-use Prim.Native.Nat.{ℕ, suc, ◌+◌, ◌≤◌, ◌<◌}
+use Prim.Native.Nat.{ℕ, suc, ◌≤◌, ◌<◌}
 use mathlib.Core.Bool.{true, false, cond, ◌&&◌}
 use mathlib.Core.List.{List}
 use mathlib.Core.Path.{◌≡◌, refl, sym, ap, ◌∙◌}
-use native.Mathlib.Numerals.{add-one}
 use native.Mathlib.Omega.{arith}
 use lib.Dec.{leb}
 use lib.ListN.{length, get_or, set, replicate}
@@ -16,22 +15,23 @@ use Rattle.press_spec.specs.Lower.{Lowered, staying, lowered, opposite, single, 
 use Rattle.press_spec.specs.Units.{collect, collect_turn}
 use Rattle.press_nodes.specs.Tables.{clauses_in, nodes_in}
 use Rattle.press_nodes.proofs.Tables.{clauses-at}
-use Rattle.press_lowered.specs.declared.literal.Literal.{Literal as CodeLiteral}
-use Rattle.press_lowered.specs.declared.table.Lowered.{Lowered as CodeLowered}
-use Rattle.press_lowered.specs.declared.table.Lowered.TheVariants.{Staying, With}
-use Rattle.press_lowered.specs.Literals.{literal_in, Narrow}
+use Rattle.std.specs.Prelude.{Option, Some, None}
+use Rattle.clause.specs.declared.Clause.{Clause}
+use Rattle.press_nodes.specs.declared.link.Link.{Link}
+use Rattle.press_reach.specs.declared.literal.Literal.{Literal as CodeLiteral}
+use Rattle.press_reach.specs.Literals.{literal_in, Narrow}
 use Rattle.press_lowered.specs.Table.{lowered_in, low_in}
 use Rattle.press_lowered.proofs.Searched.{single-narrow}
 use Rattle.press_lowered.proofs.Tabled.{low-blank}
 use Rattle.press_units.specs.Turns.{collect_in}
 
-pub found-narrow : (v : ℕ) (c : Literals) {x : CodeLowered} {y : CodeLiteral} → lowered_in x ≡ single v c → x ≡ With y → v ≤ width → Narrow (literal_in y)
+pub found-narrow : (v : ℕ) (c : Literals) {x : Option CodeLiteral} {y : CodeLiteral} → lowered_in x ≡ single v c → x ≡ Some y → v ≤ width → Narrow (literal_in y)
 unfolding lowered_in
 found-narrow v c {x} {y} told q h = single-narrow v c (literal_in y) h (sym told ∙ ap lowered_in q)
 
 -- ---- one turn
 
-module _ (v : ℕ) (clauses uses : List ℕ) (n i : ℕ) (same : i ≡ n) (w : LoweredOnes) where
+module _ (v : ℕ) (clauses : List Clause) (uses : List ℕ) (n i : ℕ) (same : i ≡ n) (w : LoweredOnes) where
   few-collected : (m : Lowered) → get_or uses i 0 < 2 → w ≡ collect n (get_or uses n 0) m w
   unfolding collect
   few-collected staying h = refl
@@ -41,12 +41,12 @@ module _ (v : ℕ) (clauses uses : List ℕ) (n i : ℕ) (same : i ≡ n) (w : L
   unfolding collect_in
   collect-few h = few-collected (single v (clauses_in clauses n)) h
 
-  module _ {c : Literals} {x : CodeLowered} (read : c ≡ clauses_in clauses n) (told : lowered_in x ≡ single v c) where
-    pub collect-staying : x ≡ Staying → w ≡ collect_in v clauses uses n w
+  module _ {c : Literals} {x : Option CodeLiteral} (read : c ≡ clauses_in clauses n) (told : lowered_in x ≡ single v c) where
+    pub collect-staying : x ≡ None → w ≡ collect_in v clauses uses n w
     unfolding collect_in collect lowered_in
     collect-staying q = rw (← read, ← told, q)
 
-    module _ {y : CodeLiteral} (q : x ≡ With y) where
+    module _ {y : CodeLiteral} (q : x ≡ Some y) where
       pub collect-owed : holds (literal_in y) w.owed ≡ true → w ≡ collect_in v clauses uses n w
       unfolding collect_in collect lowered_in
       collect-owed h = rw (← read, ← told, q, h) (both (leb 2 (get_or uses n 0)))
@@ -64,17 +64,17 @@ module _ (v : ℕ) (clauses uses : List ℕ) (n i : ℕ) (same : i ≡ n) (w : L
 
 -- ---- the walk
 
-pub collects-all : (v : ℕ) (clauses uses low last : List ℕ) (D D₀ : Literals) (from i i₀ : ℕ) (cleared : List ℕ) → from < length uses
-    → length low ≡ length uses → cleared ≡ replicate (length low) 0 → D₀ ≡ none → i₀ ≡ from + 1 → i ≤ 0
-    → fall (collect_in v clauses uses) i (lowered_ones (low_in last) D) ≡ fall (collect_in v clauses uses) i₀ (lowered_ones (low_in cleared) D₀)
-    → (links : List ℕ) (count : ℕ → ℕ) → length links ≡ length uses → ((m : ℕ) → get_or uses m 0 ≡ count m)
+pub collects-all : (v : ℕ) (clauses : List Clause) (uses : List ℕ) (low cleared last : List (Option CodeLiteral)) (D D₀ : Literals) (from i : ℕ) → from < length uses
+    → length low ≡ length uses → cleared ≡ replicate (length low) None → D₀ ≡ none → i ≤ 0
+    → fall (collect_in v clauses uses) i (lowered_ones (low_in last) D) ≡ fall (collect_in v clauses uses) (suc from) (lowered_ones (low_in cleared) D₀)
+    → (links : List Link) (count : ℕ → ℕ) → length links ≡ length uses → ((m : ℕ) → get_or uses m 0 ≡ count m)
     → low_in last ≡ (fall (collect_turn v (nodes_in links clauses) count) (suc from) (none_lowered (length links))).low
 unfolding collect_in collect_turn none_lowered
-collects-all v clauses uses low last D D₀ from i i₀ cleared inside long e none-owed up z q links count size f =
+collects-all v clauses uses low cleared last D D₀ from i inside long e none-owed z q links count size f =
     let whole : LoweredOnes = fall (collect_turn v (nodes_in links clauses) count) (suc from) (none_lowered (length links)) in
     let same : fall (collect_in v clauses uses) (suc from) (none_lowered (length links)) ≡ whole =
     fall-same (collect_in v clauses uses) (collect_turn v (nodes_in links clauses) count) (suc from) (none_lowered (length links))
     (λ n t h. rw (f n, clauses-at links clauses n (omega arith))) in
     let all : lowered_ones (low_in last) D ≡ whole =
-    fall-all (collect_in v clauses uses) i (lowered_ones (low_in last) D) whole z (q ∙ rw (up, add-one from, e, none-owed, long, ← size, low-blank (length links)) same) in
+    fall-all (collect_in v clauses uses) i (lowered_ones (low_in last) D) whole z (q ∙ rw (e, none-owed, long, ← size, low-blank (length links)) same) in
     ap (λ (w : LoweredOnes). w.low) all

@@ -6,14 +6,16 @@ ghost use Rattle.sheet.specs.Editions.{capacity};
 ghost use Rattle.base.specs.Folds.{fall};
 ghost use Rattle.press_spec.specs.Lower.{lowered_ones, none_lowered};
 ghost use Rattle.press_spec.specs.Units.{collect_turn};
-ghost use Rattle.press_nodes.specs.Tables.{clause_words, nodes_in};
+ghost use Rattle.press_nodes.specs.declared.link.Link.{Link};
+ghost use Rattle.press_nodes.specs.Tables.{nodes_in};
 ghost use Rattle.press_lowered.specs.Table.{low_in};
 ghost use Rattle.press_units.specs.Turns.{collect_in};
 
 use clause::Clause;
-use press_lowered::table::Lowered;
-use press_lowered::{literal, single, table};
-use press_nodes::{clause_table, clear};
+use press_lowered::{single, table};
+use press_nodes::clause_table;
+use press_reach::literal;
+use press_reach::literal::Literal;
 use sheet::NodeNo;
 
 // A node that is used only once stays where it is.
@@ -22,23 +24,21 @@ const SEVERAL: u16 = 2;
 // The turn at node n, where `owed` holds the opposites of what is collected so far: what it holds then.
 fn collect_turn(
     variables: u8,
-    clauses: &[u64],
+    clauses: &[Clause],
     uses: &[u16],
     n: NodeNo,
-    low: &mut [u16],
+    low: &mut [Option<Literal>],
     owed: Clause,
 ) -> Clause
     requires variables_le_width { variables ≤ width }
-    requires n_in_bounds { (n.0 < length uses.now) × (clause_words (suc n.0) ≤ length clauses.now) × (length low.old ≡ length uses.now) }
+    requires n_in_bounds { (n.0 < length uses.now) × (n.0 < length clauses.now) × (length low.old ≡ length uses.now) }
     ensures { lowered_ones (low_in low.new) (literals_of result) ≡ collect_in variables clauses.now uses.now n.0 (lowered_ones (low_in low.old) (literals_of owed)) }
 {
-    let i = n.index();
-    if uses[i] < SEVERAL {
+    if uses[n.index()] < SEVERAL {
         return owed;
     }
     let own = clause_table::clause_at(clauses, n);
-    let found = single::single(variables, own);
-    let Lowered::With(l) = found else {
+    let Some(l) = single::single(variables, own) else {
         return owed;
     };
     if literal::holds(l, owed) {
@@ -49,16 +49,20 @@ fn collect_turn(
 }
 
 // The units of what `from` reaches, by the uses of each node there.
-pub fn collect_units(variables: u8, clauses: &[u64], uses: &[u16], from: NodeNo, low: &mut [u16])
+pub fn collect_units(
+    variables: u8,
+    clauses: &[Clause],
+    uses: &[u16],
+    from: NodeNo,
+    low: &mut [Option<Literal>],
+)
     requires variables_le_width { variables ≤ width }
-    requires clauses_len { (length clauses.now ≡ clause_words (length uses.now)) × (length low.old ≡ length uses.now) × (from.0 < length uses.now) × (length uses.now ≤ capacity) }
-    ensures { (links : List ℕ) (count : ℕ → ℕ) → length links ≡ length uses.now → ((m : ℕ) → get_or uses.now m 0 ≡ count m) → low_in low.new ≡ (fall (collect_turn variables (nodes_in links clauses.now) count) (suc from.0) (none_lowered (length links))).low }
+    requires clauses_len { (length clauses.now ≡ length uses.now) × (length low.old ≡ length uses.now) × (from.0 < length uses.now) × (length uses.now ≤ capacity) }
+    ensures { (links : List Link) (count : ℕ → ℕ) → length links ≡ length uses.now → ((m : ℕ) → get_or uses.now m 0 ≡ count m) → low_in low.new ≡ (fall (collect_turn variables (nodes_in links clauses.now) count) (suc from.0) (none_lowered (length links))).low }
 {
-    clear::clear_numbers(low);
+    low.fill(None);
     let mut owed = clause::nothing();
-    let mut i = from.0 + 1;
-    while 0 < i {
-        i -= 1;
+    for i in (0..from.0 + 1).rev() {
         owed = collect_turn(variables, clauses, uses, NodeNo(i), low, owed);
     }
 }

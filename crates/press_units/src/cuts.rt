@@ -2,38 +2,35 @@
 ghost use Rattle.std.specs.Prelude.{◌≡◌, ◌<◌, length};
 ghost use Rattle.press_spec.specs.Lower.{low_at, fates_by};
 ghost use Rattle.press_nodes.specs.Tables.{links_in, Links};
-ghost use Rattle.press_nodes.specs.Fates.{fates_in};
+ghost use Rattle.press_nodes.specs.Fates.{fate_in, fates_in};
 ghost use Rattle.press_lowered.specs.Table.{low_in};
-ghost use Rattle.press_units.specs.Turns.{cut_turn};
 
 use press_lowered::edge;
-use press_nodes::fate;
+use press_nodes::fate::Fate;
+use press_nodes::link::Link;
+use press_reach::literal::Literal;
 use sheet::NodeNo;
 
-// The turn at node n: its fate, if it is kept.
-fn cut_turn(links: &[u64], low: &[u16], n: NodeNo, fates: &mut [u8])
+// What becomes of node n.
+#[tactic(auto, unfolding(press_nodes::specs::Fates::fate_in, press_spec::specs::Lower::fates_by, press_spec::specs::Lower::fate_by))]
+fn fate_of(links: &[Link], low: &[Option<Literal>], kept: &[u8], n: NodeNo) -> Fate
     requires links { Links links.now }
-    requires low_len { (length low.now ≡ length links.now) × (length fates.old ≡ length links.now) × (n.0 < length links.now) }
-    ensures { fates.new ≡ cut_turn (links_in links.now) (low_at (low_in low.now)) n.0 fates.old }
+    requires low_len { (length low.now ≡ length links.now) × (length kept.now ≡ length links.now) × (n.0 < length links.now) }
+    ensures { fate_in result ≡ fates_by kept.now (low_at (low_in low.now)) (links_in links.now) n.0 }
 {
-    let i = n.index();
-    if fates[i] == fate::LOST {
-        return;
+    if kept[n.index()] == 0 {
+        return Fate::Lost;
     }
-    let cut = edge::cut_of(links, low, n);
-    fate::put_fate(fates, n, cut);
+    Fate::Kept(edge::cut_of(links, low, n))
 }
 
-// What becomes of each node where these are lowered: in `fates` stand the marks of a trim, and then the fates.
-pub fn cut_uses(links: &[u64], low: &[u16], fates: &mut [u8])
+// What becomes of each node where these are kept and those are lowered.
+pub fn cut_uses(links: &[Link], low: &[Option<Literal>], kept: &[u8], fates: &mut [Fate])
     requires links { Links links.now }
-    requires low_len { (length low.now ≡ length links.now) × (length fates.old ≡ length links.now) }
-    ensures { fates_in fates.new ≡ fates_by fates.old (low_at (low_in low.now)) (links_in links.now) }
+    requires low_len { (length low.now ≡ length links.now) × (length kept.now ≡ length links.now) × (length fates.old ≡ length links.now) }
+    ensures { fates_in fates.new ≡ fates_by kept.now (low_at (low_in low.now)) (links_in links.now) }
 {
-    let n = links.len() as u16;
-    let mut i = 0;
-    while i < n {
-        cut_turn(links, low, NodeNo(i), fates);
-        i += 1;
+    for i in 0..links.len() {
+        fates[i] = fate_of(links, low, kept, NodeNo(i as u16));
     }
 }

@@ -1,4 +1,4 @@
-use Prim.Native.Nat.{◌≤◌}
+use Prim.Native.Nat.{suc, ◌≤◌}
 use mathlib.Core.Path.{◌≡◌}
 use lib.ListN.{length}
 use Rattle.base.specs.Folds.{fall}
@@ -12,7 +12,4 @@ abbrev pub invariant-loop-i : goal.invariant-loop-i
 invariant-loop-i l =
     (l.i ≤ length l.uses)
     × (length l.low ≡ length l.uses)
-    × (fall (collect_in l.variables l.clauses l.uses) l.i (lowered_ones (low_in l.low) (literals_of l.owed)) ≡ fall (collect_in l.variables l.clauses l.uses) l.initial.i (lowered_ones (low_in l.initial.low) (literals_of l.initial.owed)))
-
-abbrev pub decreases-loop-i : goal.decreases-loop-i
-decreases-loop-i l = l.i
+    × (fall (collect_in l.variables l.clauses l.uses) l.i (lowered_ones (low_in l.low) (literals_of l.owed)) ≡ fall (collect_in l.variables l.clauses l.uses) (suc l.fn.from.0) (lowered_ones (low_in l.initial.low) (literals_of l.initial.owed)))
