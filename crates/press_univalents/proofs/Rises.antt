@@ -4,15 +4,18 @@ use mathlib.Core.List.{List, [], ◌∷◌}
 use mathlib.Core.Path.{◌≡◌, refl, sym, ap, ◌∙◌}
 use native.Mathlib.Omega.{arith}
 use lib.ListN.{length, get_or, set, replicate}
-use borrow.Author.Tests.{eq-eqb, ne_eqb}
 use Rattle.base.specs.Folds.{rise}
 use Rattle.base.proofs.Folds.{rise-next}
+use Rattle.std.specs.Prelude.{Option, None}
 use Rattle.clause.specs.Clauses.{Literals, none}
+use Rattle.clause.specs.declared.Clause.{Clause}
+use Rattle.press_nodes.specs.declared.link.Link.{Link as CodeLink}
+use Rattle.press_reach.specs.declared.literal.Literal.{Literal}
 use Rattle.sheet.specs.Records.{Node, given, step, node_at}
-use Rattle.press_spec.specs.Links.{Link, link, links, link_at}
-use Rattle.press_spec.specs.Recycle.{Cut, Fate, lost, kept}
+use Rattle.press_spec.specs.Links.{link, links, link_at}
+use Rattle.press_spec.specs.Recycle.{Fate, lost, kept}
 use Rattle.press_spec.specs.Rebuild.{Built, built, stand_in, standing, Way, take_left, take_right, step_anew, way_of, stands_for, new_step, by_way, renew, rebuild_turn}
-use Rattle.press_spec.specs.Lower.{Lowered, LoweredOnes, lowered_ones, none_lowered, low_at, cut_by, fate_by, fates_by}
+use Rattle.press_spec.specs.Lower.{Lowered, LoweredOnes, lowered_ones, none_lowered, low_at, fates_by}
 use Rattle.press_spec.specs.Univalents.{Used, weigh, Risen, risen_to, renew_turn, weigh_turn, rise_turn, risen_by}
 use Rattle.press_spec.proofs.Nodes.{Falls, link-at}
 use Rattle.press_spec.proofs.OnTheWay.{on-the-way}
@@ -22,18 +25,6 @@ use Rattle.press_rebuild.specs.Ways.{StandIns}
 use Rattle.press_rebuild.proofs.Sounds.{nodes-sound, sound-earlier, same-node, stand_ins-low, link-sound}
 use Rattle.press_lowered.specs.Table.{low_in}
 use Rattle.press_lowered.proofs.Tabled.{low-blank}
-
--- ---- node n is rebuilt, if it is kept
-
-module _ (marks : List ℕ) (low : ℕ → Lowered) (s : List Link) (m : Node) (n i : ℕ) (same : i ≡ n) (b : Built) where
-  pub renew-past : get_or marks i 0 ≡ 0 → b ≡ renew n m (fates_by marks low s n) b
-  unfolding fates_by fate_by renew
-  renew-past h = let z : get_or marks n 0 ≡ 0 = rw (← same) h in rw (eq-eqb (get_or marks n 0) 0 z)
-
-  pub renew-kept : (z : Cut) (next : Built) → (get_or marks i 0 ≡ 0 → ⊥) → z ≡ cut_by low (link_at s n) → next ≡ renew n m (kept z) b
-      → next ≡ renew n m (fates_by marks low s n) b
-  unfolding fates_by fate_by
-  renew-kept z next h e q = let o : get_or marks n 0 ≡ 0 → ⊥ = rw (← same) h in rw (ne_eqb (get_or marks n 0) 0 o, ← e) q
 
 -- ---- no stand-in is later
 
@@ -57,7 +48,7 @@ module _ (n : ℕ) (b : Built) (low : (k : ℕ) → stand_in b k ≤ k) where
 
 -- ---- one turn
 
-module _ (h c : List ℕ) (n : ℕ) (inside : n < length h) where
+module _ (h : List CodeLink) (c : List Clause) (n : ℕ) (inside : n < length h) where
   abbrev t : List Node
   t = nodes_in h c
 
@@ -76,7 +67,7 @@ module _ (h c : List ℕ) (n : ℕ) (inside : n < length h) where
     unfolding renew_turn fates_by
     renewed w q = rw (e, q, same-link)
 
-module _ (h c : List ℕ) (n : ℕ) (inside : n < length h) (marks u : List ℕ) (used : ℕ → Used) (w : LoweredOnes) (h' c' u' : List ℕ)
+module _ (h : List CodeLink) (c : List Clause) (n : ℕ) (inside : n < length h) (marks u : List ℕ) (used : ℕ → Used) (w : LoweredOnes) (h' : List CodeLink) (c' : List Clause) (u' : List ℕ)
     (e : built (nodes_in h' c') u' ≡ renew n (node_at (nodes_in h c) n) (fates_by marks (low_at w.low) (links_in h) n) (built (nodes_in h c) u)) where
   pub rises-once : (w' : LoweredOnes) → get_or u' n 0 < length h' → w' ≡ weigh n (used n) (clauses_in c' (get_or u' n 0)) w
       → risen_to (built (nodes_in h' c') u') w' ≡ rise_turn marks (nodes_in h c) used n (risen_to (built (nodes_in h c) u) w)
@@ -86,7 +77,7 @@ module _ (h c : List ℕ) (n : ℕ) (inside : n < length h) (marks u : List ℕ)
 
 -- ---- the loop
 
-module _ (h c : List ℕ) (tables : Nodes h c) (marks : List ℕ) (used : ℕ → Used) where
+module _ (h : List CodeLink) (c : List Clause) (tables : Nodes h c) (marks : List ℕ) (used : ℕ → Used) where
   abbrev s : List Node
   s = nodes_in h c
 
@@ -99,10 +90,10 @@ module _ (h c : List ℕ) (tables : Nodes h c) (marks : List ℕ) (used : ℕ �
   abbrev says : ℕ → ℕ → Fate
   says i = fates_by marks (low_at (after i).ones.low) (links s)
 
-  pub rise-start : (low u low₀ u₀ : List ℕ) (D : Literals) → length low ≡ length h → length u ≡ length h
-      → low₀ ≡ replicate (length low) 0 → u₀ ≡ replicate (length u) 0 → D ≡ none → risen_to (built s u₀) (lowered_ones (low_in low₀) D) ≡ after 0
+  pub rise-start : (low low₀ : List (Option Literal)) (u u₀ : List ℕ) (D : Literals) → length low ≡ length h → length u ≡ length h
+      → low₀ ≡ replicate (length low) None → u₀ ≡ replicate (length u) 0 → D ≡ none → risen_to (built s u₀) (lowered_ones (low_in low₀) D) ≡ after 0
   unfolding rise none_lowered
-  rise-start low u low₀ u₀ D p q e f d = rw (e, f, d, p, q, nodes-length h c, low-blank (length h))
+  rise-start low low₀ u u₀ D p q e f d = rw (e, f, d, p, q, nodes-length h c, low-blank (length h))
 
   module _ (i : ℕ) (t : List Node) (u : List ℕ) (w : LoweredOnes) (e : risen_to (built t u) w ≡ after i) where
     so : built t u ≡ rise (rebuild_turn s (says i)) i (built s (replicate (length s) 0))
@@ -128,6 +119,6 @@ module _ (h c : List ℕ) (tables : Nodes h c) (marks : List ℕ) (used : ℕ �
     unfolding risen_by
     rise-built o p = let n : i ≡ length s = omega (arith, nodes-length h c) in ap (λ (x : Risen). x.so) e ∙ rw n
 
-  module _ (i : ℕ) (h' c' u : List ℕ) (w : LoweredOnes) (e : risen_to (built (nodes_in h' c') u) w ≡ after i) where
+  module _ (i : ℕ) (h' : List CodeLink) (c' : List Clause) (u : List ℕ) (w : LoweredOnes) (e : risen_to (built (nodes_in h' c') u) w ≡ after i) where
     pub rising-sound : i < length h → length h' ≡ length h → Sound i (link_at (links_in h') i)
     rising-sound o q = link-sound h c tables (says i) i h' c' u (so i (nodes_in h' c') u w e) o q

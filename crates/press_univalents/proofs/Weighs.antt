@@ -6,7 +6,7 @@ use mathlib.Core.Path.{◌≡◌, sym, ◌∙◌}
 use native.Mathlib.Decide.{dec_lt}
 use native.Mathlib.Omega.{arith}
 use lib.ListN.{set}
-use Rattle.clause.specs.Clauses.{Literal, plus, minus, Literals, holds, adding, lacking, inside}
+use Rattle.clause.specs.Clauses.{Literal, plus, minus, Literals, holds, adding}
 use Rattle.clause.specs.Denote.{word, width, set_of, literals_of, ClauseFits}
 use Rattle.clause.specs.declared.Clause.{Clause}
 use Rattle.clause.proofs.Sets.{has-past}
@@ -14,7 +14,7 @@ use Rattle.clause.proofs.Blocks.{pair_lt}
 use Rattle.press_spec.specs.Lower.{Lowered, lowered, opposite, LoweredOnes, lowered_ones, lower}
 use Rattle.press_spec.specs.Univalents.{often, lowerable, weigh}
 use Rattle.press_spec.proofs.Univalents.{lowerable-parts}
-use Rattle.press_lowered.specs.Literals.{Narrow}
+use Rattle.press_reach.specs.Literals.{Narrow}
 
 -- a literal that a clause holds has room in a set
 holds-narrow : (c : Clause) → ClauseFits c → (x : Literal) → holds x (literals_of c) ≡ true → Narrow x
@@ -30,31 +30,6 @@ holds-narrow c f (minus v) h = elim (dec_lt v width) [
 
 pub lowerable-narrow : (c : Clause) → ClauseFits c → (x : Literal) (D : Literals) → lowerable x (literals_of c) D ≡ true → Narrow x
 lowerable-narrow c f x D h = holds-narrow c f x (lowerable-parts x (literals_of c) D h).0
-
--- ---- the test
-
-module _ (x : Literal) (c D : Literals) where
-  pub literal-lacking : holds x c ≡ false → false ≡ lowerable x c D
-  unfolding lowerable
-  literal-lacking h = rw h
-
-  module _ (h : holds x c ≡ true) where
-    pub rest-outside : inside (lacking x c) D ≡ false → false ≡ lowerable x c D
-    unfolding lowerable
-    rest-outside i = rw (h, i)
-
-    module _ (i : inside (lacking x c) D ≡ true) where
-      pub literal-owed : holds x D ≡ true → false ≡ lowerable x c D
-      unfolding lowerable
-      literal-owed o = rw (h, i, o)
-
-      pub opposite-owed : holds x D ≡ false → holds (opposite x) D ≡ true → false ≡ lowerable x c D
-      unfolding lowerable
-      opposite-owed o p = rw (h, i, o, p)
-
-      pub nothing-owed : holds x D ≡ false → holds (opposite x) D ≡ false → true ≡ lowerable x c D
-      unfolding lowerable
-      nothing-owed o p = rw (h, i, o, p)
 
 -- ---- what comes of it
 

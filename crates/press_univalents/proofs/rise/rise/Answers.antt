@@ -1,9 +1,10 @@
 use native.Mathlib.Omega.{arith}
 use Rattle.press_univalents.proofs.Rises.{rise-start, rising-low, rising-sound, rise-again, rise-low, rise-built}
+use borrow.Author.Rules.{rules}
 use Rattle.press_univalents.proofs.rise.rise.Goals as goal
 
 pub loop-i-init : goal.loop-i-init
-loop-i-init c = (omega arith, omega arith, omega arith, omega (arith, c.clear_numbers.auto, c.requires.kept_len), omega (arith, c.clear_numbers-2.auto, c.requires.kept_len), rise-start _ _ c.requires.nodes _ _ c.args.low.now c.args.stand_ins.now _ _ _ c.requires.kept_len.2 c.requires.kept_len.3 c.clear_numbers.ensures c.clear_numbers-2.ensures c.nothing-owed.ensures)
+loop-i-init c = (omega arith, omega arith, omega arith, omega (arith, c.fill.ensures.len, c.requires.kept_len), omega (arith, c.fill-2.ensures.len, c.requires.kept_len), rise-start _ _ c.requires.nodes _ _ c.args.low.now _ c.args.stand_ins.now _ _ c.requires.kept_len.2 c.requires.kept_len.3 (c.fill.ensures.after (λ y q. search rules)) (c.fill-2.ensures.after (λ y q. q)) c.nothing-owed.ensures)
 
 pub loop-i-preserved : goal.loop-i-preserved
 loop-i-preserved c = let v = c.loop-i.invariant in

@@ -1,4 +1,4 @@
-use Prim.Native.Nat.{◌-◌, ◌≤◌}
+use Prim.Native.Nat.{◌≤◌}
 use mathlib.Core.Path.{◌≡◌}
 use lib.ListN.{length, replicate}
 use Rattle.base.specs.Folds.{rise}
@@ -21,6 +21,3 @@ invariant-loop-i l =
     × (risen_to (built (nodes_in l.links l.clauses) l.stand_ins) (lowered_ones (low_in l.low) (literals_of l.owed))
     ≡ rise (rise_turn l.kept (nodes_in l.initial.links l.initial.clauses) (use_at l.used)) l.i
     (risen_to (built (nodes_in l.initial.links l.initial.clauses) (replicate (length (nodes_in l.initial.links l.initial.clauses)) 0)) (none_lowered (length (nodes_in l.initial.links l.initial.clauses)))))
-
-abbrev pub decreases-loop-i : goal.decreases-loop-i
-decreases-loop-i l = length l.initial.links - l.i
