@@ -11,11 +11,10 @@ use Rattle.sheet.specs.Records.{Node, step, clause, node_at}
 use Rattle.press_spec.specs.Rebuild.{Ended, ended}
 use Rattle.press_spec.specs.Lower.{Lowered, lowered, return_of, resolving, by_return, come_back}
 use Rattle.press_spec.proofs.Nodes.{clause-front}
-use Rattle.press_lowered.specs.declared.literal.Literal.{Literal as CodeLiteral}
-use Rattle.press_lowered.specs.declared.literal.Literal.TheVariants.{Plus, Minus}
-use Rattle.press_lowered.specs.declared.table.Lowered.{Lowered as CodeLowered}
-use Rattle.press_lowered.specs.declared.table.Lowered.TheVariants.{With}
-use Rattle.press_lowered.specs.Literals.{literal_in}
+use Rattle.std.specs.Prelude.{Option, Some}
+use Rattle.press_reach.specs.declared.literal.Literal.{Literal as CodeLiteral}
+use Rattle.press_reach.specs.declared.literal.Literal.TheVariants.{Plus, Minus}
+use Rattle.press_reach.specs.Literals.{literal_in}
 use Rattle.press_lowered.specs.Table.{lowered_in}
 use Rattle.press_return.specs.declared.Return.{Return as CodeReturn}
 use Rattle.press_return.specs.declared.Return.TheVariants.{ConclusionStays, UnitConcludes, Resolves}
@@ -42,7 +41,7 @@ module _ (s : List Node) (k : ℕ) where
 
 -- ---- what comes back
 
-pub found_back : (x : CodeLowered) (m : Lowered) (y : CodeLiteral) (n u : ℕ) (t : Ended) → lowered_in x ≡ m → x ≡ With y → u ≡ n
+pub found_back : (x : Option CodeLiteral) (m : Lowered) (y : CodeLiteral) (n u : ℕ) (t : Ended) → lowered_in x ≡ m → x ≡ Some y → u ≡ n
     → come_back m n t ≡ come_back (lowered (literal_in y)) u t
 unfolding lowered_in
 found_back x m y n u t e q same = rw (← e, q, same)

@@ -1,8 +1,7 @@
 -- The walk of the return: it only adds nodes, so where all have room at the end there is room at each turn.
-use Prim.Native.Nat.{ℕ, ◌+◌, ◌-◌, ◌≤◌, ◌<◌}
+use Prim.Native.Nat.{ℕ, suc, ◌-◌, ◌≤◌, ◌<◌}
 use mathlib.Core.List.{List, [], ◌∷◌}
 use mathlib.Core.Path.{◌≡◌, sym, ap, ◌∙◌}
-use native.Mathlib.Numerals.{add-one}
 use native.Mathlib.Omega.{arith}
 use lib.ListN.{length, get_or, length-append}
 use Rattle.base.specs.Folds.{fall}
@@ -38,7 +37,7 @@ module _ (low : ℕ → Lowered) (b : Built) where
       omega (arith, more, ap (λ (y : Ended). length y.nodes) (sym (fall-more (return_turn low b) i t some) ∙ e))
 
 -- the walk's start is what is said of the whole
-pub walk-whole : (low : ℕ → Lowered) (s : List Node) (stand_ins : List ℕ) (from last i : ℕ) → last ≡ get_or stand_ins from 0 → i ≡ from + 1
-    → fall (return_turn low (built s stand_ins)) i (ended s last) ≡ come_back_all low (built s stand_ins) from
+pub walk-whole : (low : ℕ → Lowered) (s : List Node) (stand_ins : List ℕ) (from last : ℕ) → last ≡ get_or stand_ins from 0
+    → fall (return_turn low (built s stand_ins)) (suc from) (ended s last) ≡ come_back_all low (built s stand_ins) from
 unfolding come_back_all ended_at stand_in
-walk-whole low s stand_ins from last i e q = rw (q, add-one from, e)
+walk-whole low s stand_ins from last e = rw e

@@ -1,4 +1,4 @@
-use Prim.Native.Nat.{◌≤◌, ◌<◌}
+use Prim.Native.Nat.{suc, ◌≤◌, ◌<◌}
 use mathlib.Core.Path.{◌≡◌}
 use lib.ListN.{length, take}
 use Rattle.base.specs.Folds.{fall}
@@ -18,7 +18,4 @@ invariant-loop-i l =
     × (l.at.nodes ≤ length l.initial.links)
     × (l.at.last.0 < l.at.nodes)
     × (let turn = return_turn (low_at (low_in l.low)) (built (take l.nodes (nodes_in l.initial.links l.initial.clauses)) l.stand_ins) in
-    fall turn l.i (ended_in l.at (nodes_in l.links l.clauses)) ≡ fall turn l.initial.i (ended_in l.initial.at (nodes_in l.initial.links l.initial.clauses)))
-
-abbrev pub decreases-loop-i : goal.decreases-loop-i
-decreases-loop-i l = l.i
+    fall turn l.i (ended_in l.at (nodes_in l.links l.clauses)) ≡ fall turn (suc l.fn.from.0) (ended_in l.initial.at (nodes_in l.initial.links l.initial.clauses)))
