@@ -1,4 +1,7 @@
 -- What a step's answer, a tally, a slot and a row say is said by no other.
+use Rattle.std.proofs.Common.{Err, Ok}
+use Rattle.std.specs.Prelude.{⊤}
+use Rattle.std.specs.declared.result.Result.{Result}
 use mathlib.Core.Path.{◌≡◌, refl, ap, ap₂}
 use mathlib.Core.List.{List, [], ◌∷◌}
 use Rattle.clause.proofs.Fits.{literals_of-injective}
@@ -8,24 +11,24 @@ use Rattle.tally.specs.declared.Tally.{Tally as CodeTally}
 use Rattle.tally.specs.Said.{tally_of}
 use Rattle.replay_spec.specs.Slots.{Slot}
 use Rattle.replay_slots.specs.declared.Slot.{Slot as CodeSlot}
-use Rattle.replay_slots.specs.declared.StepAnswer.{StepAnswer}
-use Rattle.replay_slots.specs.declared.StepAnswer.TheVariants as S
+use Rattle.replay_slots.specs.declared.Untaken.{Untaken}
+use Rattle.replay_slots.specs.declared.Untaken.TheVariants as U
 use Rattle.replay_slots.specs.Said.{slot_of, row_of, SlotFits, RowFits, said_of_step}
 
-pub said_of_step-injective : (r₁ r₂ : StepAnswer) → said_of_step r₁ ≡ said_of_step r₂ → r₁ ≡ r₂
+pub said_of_step-injective : (r₁ r₂ : Result ⊤ Untaken) → said_of_step r₁ ≡ said_of_step r₂ → r₁ ≡ r₂
 unfolding said_of_step
-said_of_step-injective S.Taken S.Taken e = refl
-said_of_step-injective S.Taken (S.Refused why k) e = cc
-said_of_step-injective S.Taken S.Unfit e = cc
-said_of_step-injective (S.Refused why k) S.Taken e = cc
-said_of_step-injective (S.Refused why k) (S.Refused why' k') e =
-    let n : number_of why ≡ number_of why' = cc in
-    let q : k.0 ≡ k'.0 = cc in
-    λ i. S.Refused (number_of-injective why why' n i) (record { 0 = q i })
-said_of_step-injective (S.Refused why k) S.Unfit e = cc
-said_of_step-injective S.Unfit S.Taken e = cc
-said_of_step-injective S.Unfit (S.Refused why k) e = cc
-said_of_step-injective S.Unfit S.Unfit e = refl
+said_of_step-injective (Ok a) (Ok b) e = refl
+said_of_step-injective (Ok a) (Err (U.Refused r)) e = cc
+said_of_step-injective (Ok a) (Err U.Unfit) e = cc
+said_of_step-injective (Err (U.Refused r)) (Ok a) e = cc
+said_of_step-injective (Err (U.Refused r)) (Err (U.Refused q)) e =
+    let n : number_of r.why ≡ number_of q.why = cc in
+    let k : r.«record».0 ≡ q.«record».0 = cc in
+    λ i. Err (U.Refused (record { why = number_of-injective r.why q.why n i; «record» = record { 0 = k i } }))
+said_of_step-injective (Err (U.Refused r)) (Err U.Unfit) e = cc
+said_of_step-injective (Err U.Unfit) (Ok a) e = cc
+said_of_step-injective (Err U.Unfit) (Err (U.Refused r)) e = cc
+said_of_step-injective (Err U.Unfit) (Err U.Unfit) e = refl
 
 pub slot_of-injective : (s₁ s₂ : CodeSlot) → SlotFits s₁ → SlotFits s₂ → slot_of s₁ ≡ slot_of s₂ → s₁ ≡ s₂
 slot_of-injective s₁ s₂ f g e =

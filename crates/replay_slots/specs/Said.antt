@@ -1,17 +1,19 @@
 -- What the code's values are, and what a step's answer says: the paper's number and values for each case.
-use Rattle.std.specs.Prelude.{List, [], ◌∷◌, map}
+use Rattle.std.specs.Prelude.{List, [], ◌∷◌, map, Ok, Err, ⊤, None, Some}
+use Rattle.std.specs.declared.option.Option.{Option}
+use Rattle.std.specs.declared.result.Result.{Result}
 use Rattle.clause.specs.Denote.{literals_of, ClauseFits}
+use Rattle.sheet.specs.declared.Reason.{Reason}
 use Rattle.sheet.specs.Reasons.{Verdict, number_of}
 use Rattle.tally.specs.Tally.{Tally}
 use Rattle.tally.specs.Said.{tally_of}
 use Rattle.replay_slots.specs.declared.Slot.{Slot as CodeSlot}
 use Rattle.replay_slots.specs.declared.Place.{Place as CodePlace}
-use Rattle.replay_slots.specs.declared.Place.TheVariants as P
 use Rattle.replay_slots.specs.declared.Sought.{Sought as CodeSought}
 use Rattle.replay_slots.specs.declared.Sought.TheVariants as L
-use Rattle.replay_slots.specs.declared.Decided.{Decided as CodeDecided}
-use Rattle.replay_slots.specs.declared.StepAnswer.{StepAnswer}
-use Rattle.replay_slots.specs.declared.StepAnswer.TheVariants as S
+use Rattle.replay_slots.specs.declared.Taken.{Taken}
+use Rattle.replay_slots.specs.declared.Untaken.{Untaken}
+use Rattle.replay_slots.specs.declared.Untaken.TheVariants as U
 use Rattle.replay_spec.specs.Slots.{Slot, slot, Place, nowhere, at, Sought, nothing, vacancy, holder}
 use Rattle.replay_spec.specs.Step.{Step, taken, refused, unfit}
 
@@ -30,9 +32,9 @@ abbrev pub RowFits : List CodeSlot → Type 0
 RowFits [] = Unit {0}
 RowFits (s ∷ slots) = SlotFits s × RowFits slots
 
-abbrev pub place_of : CodePlace → Place
-place_of P.Nowhere = nowhere
-place_of (P.At i s) = at i.0 (slot_of s)
+abbrev pub place_of : Option CodePlace → Place
+place_of None = nowhere
+place_of (Some p) = at p.at.0 (slot_of p.slot)
 
 abbrev pub sought_of : CodeSought → Sought
 sought_of L.Nothing = nothing
@@ -45,10 +47,12 @@ pub record Decided : Type 0 where
   pub tally : Tally
   pub place : Place
 
-abbrev pub decided_of : CodeDecided → Decided
-decided_of d = record { verdict = d.verdict; tally = tally_of d.tally; place = place_of d.place }
+-- a record that is not taken leaves the tally t, and no slot is put
+abbrev pub decided_of : Tally → Result Taken Reason → Decided
+decided_of t (Ok d) = record { verdict = Ok tt; tally = tally_of d.tally; place = place_of d.place }
+decided_of t (Err why) = record { verdict = Err why; tally = t; place = nowhere }
 
-unfoldable pub said_of_step : StepAnswer → Step
-said_of_step S.Taken = taken
-said_of_step (S.Refused why k) = refused (number_of why) k.0
-said_of_step S.Unfit = unfit
+unfoldable pub said_of_step : Result ⊤ Untaken → Step
+said_of_step (Ok tt) = taken
+said_of_step (Err (U.Refused r)) = refused (number_of r.why) r.«record».0
+said_of_step (Err U.Unfit) = unfit

@@ -1,15 +1,14 @@
 // What a step of the replay works on: slots, places in the row, and what is looked for and decided.
 #![tactic(auto)]
 
-ghost use Rattle.std.specs.Prelude.{◌≡◌, min};
+ghost use Rattle.std.specs.Prelude.{◌≡◌};
 ghost use Rattle.clause.specs.Denote.{literals_of};
-ghost use Rattle.sheet.specs.Editions.{most_records};
-ghost use Rattle.replay_spec.specs.Slots.{slot, empty, holding, nowhere, at, slot_in, into};
+ghost use Rattle.replay_spec.specs.Slots.{slot, empty, holding, slot_in, into};
 ghost use Rattle.replay_slots.specs.Said.{slot_of, place_of, sought_of};
 ghost use Rattle.replay_slots.specs.Looks.{is_sought, passed, index_in};
 
 use clause::Clause;
-use sheet::{NodeNo, Reason, RecordNo, SlotNo, Verdict};
+use sheet::{NodeNo, Refusal, SlotNo};
 use tally::Tally;
 
 // A slot of the row: a mark of use (not zero: in use), a node's number, and its clause's two sets. A free slot is all zero. Each of its
@@ -22,11 +21,10 @@ pub struct Slot {
     pub clause: Clause,
 }
 
-// One record is taken, or refused, or lent with what no replay within its limit has.
-#[derive(Clone, Copy)]
-pub enum StepAnswer {
-    Taken,
-    Refused(Reason, RecordNo),
+// Why one record is not taken: it is refused, or lent with what no replay within its limit has.
+#[derive(Clone, Copy, PartialEq, Eq)]
+pub enum Untaken {
+    Refused(Refusal),
     Unfit,
 }
 
@@ -38,19 +36,18 @@ pub enum Sought {
     Node(NodeNo),
 }
 
-// A place in the row, with the slot that is found there or put there; or nowhere.
+// A place in the row, with the slot that is found there or put there. Nowhere is no place.
 #[derive(Clone, Copy)]
-pub enum Place {
-    Nowhere,
-    At(SlotNo, Slot),
+pub struct Place {
+    pub at: SlotNo,
+    pub slot: Slot,
 }
 
-// What a record comes to: what the checks say, the tally after it, and where a slot is put.
+// What a record that is taken comes to: the tally after it, and where a slot is put.
 #[derive(Clone, Copy)]
-pub struct Decided {
-    pub verdict: Verdict,
+pub struct Taken {
     pub tally: Tally,
-    pub place: Place,
+    pub place: Option<Place>,
 }
 
 pub fn empty() -> Slot
@@ -69,18 +66,20 @@ pub fn in_use(node: NodeNo, clause: Clause) -> Slot
 {
     Slot {
         used: 1,
-        node: node.0 as u32,
+        node: u32::from(node.0),
         clause,
     }
 }
 
+#[tactic(auto, unfolding(replay_spec::specs::Slots::holding))]
 fn holds(s: Slot, n: NodeNo) -> bool
     ensures { result ≡ holding n.0 (slot_of s) }
 {
-    s.used != 0 && s.node == n.0 as u32
+    s.used != 0 && s.node == u32::from(n.0)
 }
 
 // Whether a slot is the one sought.
+#[tactic(auto, unfolding(crate::specs::Looks::is_sought, replay_spec::specs::Slots::free))]
 pub fn is_sought(s: Slot, sought: Sought) -> bool
     ensures { result ≡ is_sought (sought_of sought) (slot_of s) }
 {
@@ -92,65 +91,36 @@ pub fn is_sought(s: Slot, sought: Sought) -> bool
 }
 
 // How many of the row's slots are passed in a look that ends nowhere: where nothing is sought, none.
+#[tactic(auto, unfolding(crate::specs::Looks::passed))]
 pub fn passed(sought: Sought, slots: usize) -> usize
     ensures { result ≡ passed (sought_of sought) slots }
 {
     match sought {
         Sought::Nothing => 0,
-        Sought::Free => slots,
-        Sought::Node(_) => slots,
+        Sought::Free | Sought::Node(_) => slots,
     }
-}
-
-pub fn nowhere() -> Place
-    ensures { place_of result ≡ nowhere }
-{
-    Place::Nowhere
-}
-
-pub fn at(i: SlotNo, slot: Slot) -> Place
-    ensures { place_of result ≡ at i.0 (slot_of slot) }
-{
-    Place::At(i, slot)
 }
 
 // The same place with another slot.
-pub fn into(slot: Slot, place: Place) -> Place
+#[tactic(auto, unfolding(replay_spec::specs::Slots::into))]
+pub fn into(slot: Slot, place: Option<Place>) -> Option<Place>
     ensures { place_of result ≡ into (slot_of slot) (place_of place) }
 {
-    match place {
-        Place::Nowhere => Place::Nowhere,
-        Place::At(i, _) => Place::At(i, slot),
-    }
+    place.map(|p| Place { at: p.at, slot })
 }
 
 // Nowhere nothing is held.
-pub fn slot_in(place: Place) -> Slot
+#[tactic(auto, unfolding(replay_spec::specs::Slots::slot_in))]
+pub fn slot_in(place: Option<Place>) -> Slot
     ensures { slot_of result ≡ slot_in (place_of place) }
 {
-    match place {
-        Place::Nowhere => empty(),
-        Place::At(_, slot) => slot,
-    }
+    place.map_or(empty(), |p| p.slot)
 }
 
 // The place's index in a row of so many slots; nowhere is past it.
-pub fn index_in(place: Place, slots: usize) -> usize
+#[tactic(auto, unfolding(crate::specs::Looks::index_in))]
+pub fn index_in(place: Option<Place>, slots: usize) -> usize
     ensures { result ≡ index_in (place_of place) slots }
 {
-    match place {
-        Place::Nowhere => slots,
-        Place::At(i, _) => i.index(),
-    }
-}
-
-// The slots of a row of one's own: as many as are asked for, and at most as many as there may be records in any edition.
-pub fn enough(slots: usize) -> usize
-    ensures { result ≡ min slots most_records }
-{
-    if slots < sheet::limits::MOST_RECORDS {
-        slots
-    } else {
-        sheet::limits::MOST_RECORDS
-    }
+    place.map_or(slots, |p| p.at.index())
 }
