@@ -10,10 +10,10 @@ ghost use Rattle.replay_sought.specs.Sought.{left_sought, right_sought, room_sou
 
 use replay_slots::Sought;
 use sheet::edition::Edition;
-use sheet::{Reading, Record};
+use sheet::{Reason, Record};
 
 // The record that a replay's bytes are: drops read too.
-pub fn read(edition: Edition, bytes: &[u8]) -> Reading
+pub fn read(edition: Edition, bytes: &[u8]) -> Result<Record, Reason>
     requires { record_bytes edition ≤ length bytes.now }
     ensures { reading_of result ≡ reading edition true bytes.now }
 {
@@ -21,57 +21,34 @@ pub fn read(edition: Edition, bytes: &[u8]) -> Reading
 }
 
 // A step names its left parent, and a drop its node.
-pub fn left_sought(reading: Reading) -> Sought
+#[tactic(auto, unfolding(crate::specs::Sought::left_sought, sheet::specs::Denote::reading_of, sheet::specs::Denote::record_of))]
+pub fn left_sought(reading: Result<Record, Reason>) -> Sought
     ensures { sought_of result ≡ left_sought (reading_of reading) }
 {
-    let Reading::Reads(r) = reading else {
-        return Sought::Nothing;
-    };
-    match r {
-        Record::Given { line: _, clause: _ } => Sought::Nothing,
-        Record::Step {
-            pivot: _,
-            left,
-            right: _,
-            clause: _,
-        } => Sought::Node(left),
-        Record::Drop(n) => Sought::Node(n),
+    match reading {
+        Ok(Record::Step { left, .. }) => Sought::Node(left),
+        Ok(Record::Drop(n)) => Sought::Node(n),
+        Ok(Record::Given { .. }) | Err(_) => Sought::Nothing,
     }
 }
 
-pub fn right_sought(reading: Reading) -> Sought
+#[tactic(auto, unfolding(crate::specs::Sought::right_sought, sheet::specs::Denote::reading_of, sheet::specs::Denote::record_of))]
+pub fn right_sought(reading: Result<Record, Reason>) -> Sought
     ensures { sought_of result ≡ right_sought (reading_of reading) }
 {
-    let Reading::Reads(r) = reading else {
-        return Sought::Nothing;
-    };
-    match r {
-        Record::Given { line: _, clause: _ } => Sought::Nothing,
-        Record::Step {
-            pivot: _,
-            left: _,
-            right,
-            clause: _,
-        } => Sought::Node(right),
-        Record::Drop(_) => Sought::Nothing,
+    match reading {
+        Ok(Record::Step { right, .. }) => Sought::Node(right),
+        _ => Sought::Nothing,
     }
 }
 
 // A node needs a free slot.
-pub fn room_sought(reading: Reading) -> Sought
+#[tactic(auto, unfolding(crate::specs::Sought::room_sought, sheet::specs::Denote::reading_of, sheet::specs::Denote::record_of))]
+pub fn room_sought(reading: Result<Record, Reason>) -> Sought
     ensures { sought_of result ≡ room_sought (reading_of reading) }
 {
-    let Reading::Reads(r) = reading else {
-        return Sought::Nothing;
-    };
-    match r {
-        Record::Given { line: _, clause: _ } => Sought::Free,
-        Record::Step {
-            pivot: _,
-            left: _,
-            right: _,
-            clause: _,
-        } => Sought::Free,
-        Record::Drop(_) => Sought::Nothing,
+    match reading {
+        Ok(Record::Given { .. } | Record::Step { .. }) => Sought::Free,
+        Ok(Record::Drop(_)) | Err(_) => Sought::Nothing,
     }
 }
