@@ -8,10 +8,10 @@ use Rattle.replay_spec.specs.Step.{State}
 use Rattle.replay_spec.specs.Replay.{ending}
 use Rattle.replay_answer.specs.Answers.{ended}
 
-pub last-is : (n : ℕ) → (n ≡ 0 → ⊥) → holder (n - 1) ≡ last_of n
+pub last_is : (n : ℕ) → (n ≡ 0 → ⊥) → holder (n - 1) ≡ last_of n
 unfolding last_of
-last-is zero h = absurd (h refl)
-last-is (suc n) h = let e : suc n - 1 ≡ n = omega arith in ap holder e
+last_is zero h = absurd (h refl)
+last_is (suc n) h = let e : suc n - 1 ≡ n = omega arith in ap holder e
 
 pub ends-in : (k : ℕ) (s : State) → ended (Ok tt) k s.tally (look (last_of s.tally.next) s.slots) ≡ ending k s
 unfolding ended ending

@@ -1,25 +1,25 @@
 -- What the replay's answer says: the paper's number and values for each case; and how a replay ends.
 use Rattle.std.specs.Prelude.{ℕ, Ok, Err}
+use Rattle.std.specs.declared.result.Result.{Result as CodeResult}
 use Rattle.clause.specs.Denote.{literals_of, ClauseFits}
+use Rattle.sheet.specs.declared.Refusal.{Refusal}
 use Rattle.sheet.specs.Reasons.{Verdict, number_of}
 use Rattle.tally.specs.Tally.{Tally}
 use Rattle.replay_spec.specs.Slots.{Place}
 use Rattle.replay_spec.specs.Replay.{Result, Answer, refused, accepted, by_last}
 use Rattle.replay_answer.specs.declared.Replayed.{Replayed}
-use Rattle.replay_answer.specs.declared.ReplayAnswer.{ReplayAnswer}
-use Rattle.replay_answer.specs.declared.ReplayAnswer.TheVariants as A
 
 abbrev pub result_of : Replayed → Result
 result_of r = record { conclusion = literals_of r.conclusion; nodes = r.nodes; steps = r.steps; peak = r.peak }
 
-unfoldable pub said : ReplayAnswer → Answer
-said (A.Accepted r) = accepted (result_of r)
-said (A.Refused why k) = refused (number_of why) k.0
+unfoldable pub said : CodeResult Replayed Refusal → Answer
+said (Ok r) = accepted (result_of r)
+said (Err r) = refused (number_of r.why) r.«record».0
 
 -- each word of it is one that the machine can hold
-abbrev pub AnswerFits : ReplayAnswer → Type 0
-AnswerFits (A.Accepted r) = ClauseFits r.conclusion
-AnswerFits (A.Refused why k) = Unit {0}
+abbrev pub AnswerFits : CodeResult Replayed Refusal → Type 0
+AnswerFits (Ok r) = ClauseFits r.conclusion
+AnswerFits (Err r) = Unit {0}
 
 -- refused at record k; or after k records, by what is found of the last node
 unfoldable pub ended : Verdict → ℕ → Tally → Place → Answer
