@@ -9,40 +9,38 @@ use replay_slots::{Place, Slot, Sought};
 use sheet::SlotNo;
 
 // The first slot that is the one sought.
-pub fn find(slots: &[Slot], sought: Sought) -> Place
+pub fn find(slots: &[Slot], sought: Sought) -> Option<Place>
     ensures { place_of result ≡ look (sought_of sought) (row_of slots.now) }
 {
     let n = replay_slots::passed(sought, slots.len());
-    let mut i = 0;
-    while i < n {
-        let slot = slots[i];
-        if replay_slots::is_sought(slot, sought) {
-            return replay_slots::at(SlotNo(i), slot);
+    for (i, slot) in slots[..n].iter().enumerate() {
+        if replay_slots::is_sought(*slot, sought) {
+            return Some(Place {
+                at: SlotNo(i),
+                slot: *slot,
+            });
         }
-        i += 1;
     }
-    replay_slots::nowhere()
+    None
 }
 
 // What a slot holds; past the row, an empty one.
 pub fn slot_at(slots: &[Slot], at: SlotNo) -> Slot
     ensures { slot_of result ≡ get_or (row_of slots.now) at.0 empty }
 {
-    let i = at.0;
-    if i < slots.len() {
-        return slots[i];
-    }
-    replay_slots::empty()
+    slots
+        .get(at.index())
+        .copied()
+        .unwrap_or(replay_slots::empty())
 }
 
 // A slot is overwritten whole; nowhere nothing is.
-pub fn put(slots: &mut [Slot], place: Place)
+pub fn put(slots: &mut [Slot], place: Option<Place>)
     ensures { row_of slots.new ≡ put (place_of place) (row_of slots.old) }
 {
     let i = replay_slots::index_in(place, slots.len());
-    let slot = replay_slots::slot_in(place);
     if i < slots.len() {
-        slots[i] = slot;
+        slots[i] = replay_slots::slot_in(place);
     }
 }
 
@@ -50,16 +48,19 @@ pub fn put(slots: &mut [Slot], place: Place)
 pub fn free(slots: &mut [Slot], at: SlotNo)
     ensures { row_of slots.new ≡ set (row_of slots.old) at.0 empty }
 {
-    put(slots, replay_slots::at(at, replay_slots::empty()));
+    put(
+        slots,
+        Some(Place {
+            at,
+            slot: replay_slots::empty(),
+        }),
+    );
 }
 
 // Every slot freed.
+#[tactic(auto, using(crate::proofs::Cells::all_zero))]
 pub fn clear(slots: &mut [Slot])
     ensures { row_of slots.new ≡ cleared (row_of slots.old) }
 {
-    let mut at = 0;
-    while at < slots.len() {
-        free(slots, SlotNo(at));
-        at += 1;
-    }
+    slots.fill(replay_slots::empty());
 }

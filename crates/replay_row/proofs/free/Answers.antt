@@ -3,4 +3,4 @@ use Rattle.replay_row.proofs.free.Goals as goal
 
 pub returns : goal.returns
 unfolding put
-returns c = simp (c.at.ensures, c.empty.ensures) at c.put.ensures
+returns c = simp c.empty.ensures at c.put.ensures
