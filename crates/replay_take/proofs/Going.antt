@@ -1,5 +1,6 @@
 -- How far a run has come: what the loop over the records keeps, why a record that is taken keeps it, and what it comes to where one is not, or none is left.
 use Rattle.std.proofs.Common.{Err, Ok}
+use Rattle.std.specs.Result.{is_err}
 use mathlib.Core.Path.{◌≡◌, refl, sym, ap, ap₂, ◌∙◌}
 use mathlib.Core.Bool.{true, false}
 use mathlib.Core.List.{List}
@@ -16,7 +17,7 @@ use Rattle.sheet.proofs.RecordBytes.{lent, lent_is}
 use Rattle.sheet.proofs.Fine.{Lengths, lengths-fine}
 use Rattle.tally.specs.Tally.{Tally, nothing}
 use Rattle.replay_spec.specs.Slots.{Slot, Place, look, last_of}
-use Rattle.replay_spec.specs.Step.{State, state, turn, Judged, judged, by_turn, passes, fits}
+use Rattle.replay_spec.specs.Step.{State, state, turn, Judged, judged, by_turn, fits}
 use Rattle.replay_spec.specs.Replay.{Answer, run, ending, stopped, ran, ran_through}
 use Rattle.replay_spec.proofs.Stopped.{stopped-goes-on, stopped-refused}
 use Rattle.replay_spec.proofs.Steps.{Within, record-fits, turn-goes-on, turn-refuses}
@@ -32,9 +33,8 @@ pub goes_none : (e : Edition) (rules sheet : List ℕ) (slots : List Slot) (t : 
 goes_none e rules sheet slots t q =
     rw q (record { within = omega arith; left = λ m o. let all : m ≡ length sheet / record_bytes e = omega arith in rw all })
 
-passed-fine : (v : Verdict) → passes v ≡ true → v ≡ Ok tt
-unfolding passes
-passed-fine (Ok tt) h = refl
+passed-fine : (v : Verdict) → is_err v ≡ false → v ≡ Ok tt
+passed-fine (Ok u) h = refl
 passed-fine (Err why) h = cc
 
 module _ (e : Edition) (rules sheet : List ℕ) (s₀ : State) (k : ℕ) (s : State) (g : Goes e rules sheet s₀ k s) where
@@ -44,7 +44,7 @@ module _ (e : Edition) (rules sheet : List ℕ) (s₀ : State) (k : ℕ) (s : St
   unfolding run stopped
   goes-all n q o = ap (λ (a : Answer). ran a s) (ends-in n s) ∙ sym (g.left 0 (omega arith) ∙ ap (λ (i : ℕ). ran (ending i s) s) o)
 
-  module _ (h : k < length sheet / record_bytes e) (fine : check_lengths e (replay_records e) (length sheet) (length rules) ≡ Ok tt) where
+  module _ (h : k < length sheet / record_bytes e) (fine : check_lengths e (replay_records e) (length sheet) (length rules) ≡ (Ok tt)) where
     lengths : Lengths e (replay_records e) (length sheet) (length rules) (length sheet / record_bytes e)
     lengths = lengths-fine e (replay_records e) (length sheet) (length rules) fine
 
@@ -62,7 +62,7 @@ module _ (e : Edition) (rules sheet : List ℕ) (s₀ : State) (k : ℕ) (s : St
       says w q = sym (ap (λ (y : Judged). y.verdict) is) ∙ q
 
       -- taken
-      pub goes_on : passes v ≡ true → Goes e rules sheet s₀ (k + 1) t
+      pub goes_on : is_err v ≡ false → Goes e rules sheet s₀ (k + 1) t
       goes_on q =
           let on = turn-goes-on e sheet rules (length sheet / record_bytes e) lengths k h s g.within in
           let now : t ≡ (by_turn s (turn e rules (record_at e sheet k) s)).state = ap (λ (y : Judged). y.state) is in
@@ -71,11 +71,11 @@ module _ (e : Edition) (rules sheet : List ℕ) (s₀ : State) (k : ℕ) (s : St
           (record { within = (on 0 w).1; left = λ m o. g.left (suc m) (omega arith) ∙ ap₂ ran (on m w).0 (stopped-goes-on e rules sheet m k s w) })
 
       -- refused: that is the run's answer, and the state is as it was
-      pub goes-no-more : passes v ≡ false → (u : Tally) (p : Place) → ran (ended v k u p) t ≡ ran_through e rules sheet (length sheet / record_bytes e) 0 s₀
-      unfolding passes ended
+      pub goes-no-more : is_err v ≡ true → (u : Tally) (p : Place) → ran (ended v k u p) t ≡ ran_through e rules sheet (length sheet / record_bytes e) 0 s₀
+      unfolding ended
       goes-no-more q u p = by-verdict v refl q
         where
-          by-verdict : (w : Verdict) → v ≡ w → passes w ≡ false → ran (ended w k u p) t ≡ ran_through e rules sheet (length sheet / record_bytes e) 0 s₀
+          by-verdict : (w : Verdict) → v ≡ w → is_err w ≡ true → ran (ended w k u p) t ≡ ran_through e rules sheet (length sheet / record_bytes e) 0 s₀
           by-verdict (Ok tt) o z = cc
           by-verdict (Err why) o z =
               let m = length sheet / record_bytes e - suc k in

@@ -7,7 +7,7 @@ ghost use Rattle.replay_spec.specs.Step.{state, turn, judged, by_turn, fits};
 ghost use Rattle.replay_slots.specs.Said.{row_of};
 
 use replay_slots::Slot;
-use sheet::Verdict;
+use sheet::Reason;
 use sheet::edition::Edition;
 use tally::Tally;
 
@@ -18,7 +18,7 @@ pub fn take(
     t: &mut Tally,
     rules: &[u8],
     bytes: &[u8],
-) -> Verdict
+) -> Result<(), Reason>
     requires { fits edition (length rules.now) (length bytes.now) (tally_of t.old) ≡ true }
     ensures { judged result (state (tally_of t.new) (row_of slots.new)) ≡ by_turn (state (tally_of t.old) (row_of slots.old)) (turn edition rules.now bytes.now (state (tally_of t.old) (row_of slots.old))) }
 {
@@ -26,8 +26,8 @@ pub fn take(
     let left = replay_row::find(slots, replay_sought::left_sought(reading));
     let right = replay_row::find(slots, replay_sought::right_sought(reading));
     let vacant = replay_row::find(slots, replay_sought::room_sought(reading));
-    let decided = replay_decide::decide(edition, *t, rules, reading, left, right, vacant);
-    replay_row::put(slots, decided.place);
-    *t = decided.tally;
-    decided.verdict
+    let taken = replay_decide::decide(edition, *t, rules, reading, left, right, vacant)?;
+    replay_row::put(slots, taken.place);
+    *t = taken.tally;
+    Ok(())
 }
