@@ -6,7 +6,7 @@ ghost use Rattle.tally.specs.Said.{tally_of};
 ghost use Rattle.replay_spec.specs.Step.{state, stepped, one_step};
 ghost use Rattle.replay_slots.specs.Said.{said_of_step, row_of};
 
-use replay_slots::{Slot, StepAnswer};
+use replay_slots::{Slot, Untaken};
 use sheet::RecordNo;
 use sheet::edition::Edition;
 use tally::Tally;
@@ -19,11 +19,11 @@ pub fn step(
     rules: &[u8],
     bytes: &[u8],
     number: RecordNo,
-) -> StepAnswer
+) -> Result<(), Untaken>
     ensures { stepped (said_of_step result) (state (tally_of t.new) (row_of slots.new)) ≡ one_step edition rules.now bytes.now number.0 (state (tally_of t.old) (row_of slots.old)) }
 {
     if replay_fits::fits(edition, rules.len(), bytes.len(), *t) {
         return replay_fits::answered(replay_take::take(edition, slots, t, rules, bytes), number);
     }
-    StepAnswer::Unfit
+    Err(Untaken::Unfit)
 }
