@@ -1,36 +1,39 @@
 -- Nothing else satisfies the promises: what an answer, a tally and a row say is said by no other.
+use Rattle.std.proofs.Common.{Err, Ok}
+use Rattle.std.specs.Prelude.{⊤}
+use Rattle.std.specs.declared.result.Result.{Result}
 use mathlib.Core.Path.{◌≡◌, sym, ap, ◌∙◌}
 use mathlib.Core.List.{List}
 use Rattle.clause.proofs.Fits.{literals_of-injective}
+use Rattle.sheet.specs.declared.Refusal.{Refusal}
 use Rattle.sheet.specs.Reasons.{number_of}
 use Rattle.sheet.proofs.Reasons.{number_of-injective}
 use Rattle.tally.specs.Said.{tally_of}
 use Rattle.replay_spec.specs.Step.{state, Stepped, stepped}
-use Rattle.replay_spec.specs.Replay.{Result, Outcome, outcome}
+use Rattle.replay_spec.specs.Replay.{Result as RunResult, Outcome, outcome}
 use Rattle.replay_slots.specs.declared.Slot.{Slot as CodeSlot}
 use Rattle.tally.specs.declared.Tally.{Tally as CodeTally}
-use Rattle.replay_slots.specs.declared.StepAnswer.{StepAnswer}
+use Rattle.replay_slots.specs.declared.Untaken.{Untaken}
 use Rattle.replay_slots.specs.Said.{row_of, RowFits, said_of_step}
-use Rattle.replay_answer.specs.declared.ReplayAnswer.{ReplayAnswer}
-use Rattle.replay_answer.specs.declared.ReplayAnswer.TheVariants as A
+use Rattle.replay_answer.specs.declared.Replayed.{Replayed}
 use Rattle.replay_answer.specs.Answers.{result_of, said, AnswerFits}
 pub use Rattle.replay_slots.proofs.Unique.{said_of_step-injective, tally_of-injective, row_of-injective}
 
-pub said-injective : (r₁ r₂ : ReplayAnswer) → AnswerFits r₁ → AnswerFits r₂ → said r₁ ≡ said r₂ → r₁ ≡ r₂
+pub said-injective : (r₁ r₂ : Result Replayed Refusal) → AnswerFits r₁ → AnswerFits r₂ → said r₁ ≡ said r₂ → r₁ ≡ r₂
 unfolding said
-said-injective (A.Accepted a) (A.Accepted b) f g e =
+said-injective (Ok a) (Ok b) f g e =
     let same : result_of a ≡ result_of b = cc in
-    let clause = literals_of-injective a.conclusion b.conclusion f g (ap (λ (r : Result). r.conclusion) same) in
-    λ i. A.Accepted (record { conclusion = clause i; nodes = (same i).nodes; steps = (same i).steps; peak = (same i).peak })
-said-injective (A.Accepted a) (A.Refused why k) f g e = cc
-said-injective (A.Refused why k) (A.Accepted b) f g e = cc
-said-injective (A.Refused why k) (A.Refused why' k') f g e =
-    let n : number_of why ≡ number_of why' = cc in
-    let q : k.0 ≡ k'.0 = cc in
-    λ i. A.Refused (number_of-injective why why' n i) (record { 0 = q i })
+    let clause = literals_of-injective a.conclusion b.conclusion f g (ap (λ (r : RunResult). r.conclusion) same) in
+    λ i. Ok (record { conclusion = clause i; nodes = (same i).nodes; steps = (same i).steps; peak = (same i).peak })
+said-injective (Ok a) (Err r) f g e = cc
+said-injective (Err r) (Ok b) f g e = cc
+said-injective (Err r) (Err q) f g e =
+    let n : number_of r.why ≡ number_of q.why = cc in
+    let k : r.«record».0 ≡ q.«record».0 = cc in
+    λ i. Err (record { why = number_of-injective r.why q.why n i; «record» = record { 0 = k i } })
 
 -- two answers, tallies and rows that a step's promise admits are one
-pub step-unique : (o : Stepped) (r₁ r₂ : StepAnswer) (t₁ t₂ : CodeTally) (ys zs : List CodeSlot)
+pub step-unique : (o : Stepped) (r₁ r₂ : Result ⊤ Untaken) (t₁ t₂ : CodeTally) (ys zs : List CodeSlot)
     → RowFits ys × (stepped (said_of_step r₁) (state (tally_of t₁) (row_of ys)) ≡ o)
     → RowFits zs × (stepped (said_of_step r₂) (state (tally_of t₂) (row_of zs)) ≡ o)
     → (r₁ ≡ r₂) × (t₁ ≡ t₂) × (ys ≡ zs)
@@ -42,7 +45,7 @@ step-unique o r₁ r₂ t₁ t₂ ys zs p q =
     )
 
 -- and two answers and rows that the replay's promise admits
-pub replay-unique : (o : Outcome) (r₁ r₂ : ReplayAnswer) (ys zs : List CodeSlot)
+pub replay-unique : (o : Outcome) (r₁ r₂ : Result Replayed Refusal) (ys zs : List CodeSlot)
     → AnswerFits r₁ × RowFits ys × (outcome (said r₁) (row_of ys) ≡ o)
     → AnswerFits r₂ × RowFits zs × (outcome (said r₂) (row_of zs) ≡ o)
     → (r₁ ≡ r₂) × (ys ≡ zs)

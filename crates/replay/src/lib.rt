@@ -8,14 +8,15 @@ ghost use Rattle.replay_spec.specs.Replay.{outcome, replay};
 ghost use Rattle.replay_slots.specs.Said.{row_of};
 ghost use Rattle.replay_answer.specs.Answers.{said};
 
+use replay_answer::Replayed;
 use replay_slots::Slot;
 use sheet::edition::Edition;
-use sheet::{RecordNo, Verdict};
+use sheet::{Reason, RecordNo, Refusal};
 
 pub mod own;
 
 // 1 to 4, of the lengths alone, with the most records that the replay takes.
-fn check_lengths(edition: Edition, sheet: usize, rules: usize) -> Verdict
+fn check_lengths(edition: Edition, sheet: usize, rules: usize) -> Result<(), Reason>
     ensures { result ≡ check_lengths edition (replay_records edition) sheet rules }
 {
     sheet_checks::check_lengths(edition, edition.replay_records(), sheet, rules)
@@ -27,20 +28,15 @@ pub fn replay(
     sheet: &[u8],
     rules: &[u8],
     slots: &mut [Slot],
-) -> replay_answer::ReplayAnswer
+) -> Result<Replayed, Refusal>
     ensures { outcome (said result) (row_of slots.new) ≡ replay edition sheet.now rules.now (row_of slots.old) }
 {
     let verdict = check_lengths(edition, sheet.len(), rules.len());
-    if replay_answer::passes(verdict) {
-        replay_row::clear(slots);
-        let ran = replay_run::run(edition, sheet, rules, slots);
-        replay_row::clear(slots);
-        return ran.answer;
+    if verdict.is_err() {
+        return replay_answer::end(verdict, RecordNo(0), tally::nothing(), None);
     }
-    replay_answer::end(
-        verdict,
-        RecordNo(0),
-        tally::nothing(),
-        replay_slots::nowhere(),
-    )
+    replay_row::clear(slots);
+    let ran = replay_run::run(edition, sheet, rules, slots);
+    replay_row::clear(slots);
+    ran.answer
 }

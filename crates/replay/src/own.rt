@@ -5,14 +5,20 @@ ghost use Rattle.replay_spec.specs.Slots.{empty};
 ghost use Rattle.replay_spec.specs.Replay.{replay};
 ghost use Rattle.replay_answer.specs.Answers.{said};
 
-use replay_answer::ReplayAnswer;
+use replay_answer::Replayed;
+use sheet::Refusal;
 use sheet::edition::Edition;
+use sheet::limits::MOST_RECORDS;
 
-pub fn replay_in(edition: Edition, sheet: &[u8], rules: &[u8], slots: usize) -> ReplayAnswer
+pub fn replay_in(
+    edition: Edition,
+    sheet: &[u8],
+    rules: &[u8],
+    slots: usize,
+) -> Result<Replayed, Refusal>
     ensures { said result ≡ (replay edition sheet.now rules.now (replicate slots empty)).answer }
 {
-    let none = replay_slots::empty();
-    let mut row = [none; sheet::limits::MOST_RECORDS];
-    let n = replay_slots::enough(slots);
+    let mut row = [replay_slots::empty(); MOST_RECORDS];
+    let n = slots.min(MOST_RECORDS);
     crate::replay(edition, sheet, rules, &mut row[..n])
 }

@@ -1,13 +1,13 @@
 use Rattle.std.proofs.Common.{sym, ap, ◌∙◌}
-use Rattle.replay_spec.specs.Step.{passes}
+use Rattle.std.specs.Result.{is_err}
 use Rattle.replay.proofs.Whole.{fine-is, comes-fine, comes-refused}
 use Rattle.replay.proofs.replay.Goals as goal
 
 pub run-ran-requires : goal.run-ran-requires
-run-ran-requires c = sym c.check_lengths-verdict.ensures ∙ fine-is c.check_lengths-verdict.result (sym c.passes.ensures ∙ c.if-passes.true)
+run-ran-requires c = sym c.check_lengths-verdict.ensures ∙ fine-is c.check_lengths-verdict.result (sym c.is_err.ensures.value ∙ c.if-is_err.false)
 
-pub returns-then-passes : goal.returns-then-passes
-returns-then-passes c =
+pub returns : goal.returns
+returns c =
     comes-fine
     _
     _
@@ -15,17 +15,17 @@ returns-then-passes c =
     c.args.slots.now
     c.clear.new.slots
     c.run-ran.new.slots
-    c.clear-then-passes.new.slots
+    c.clear-2.new.slots
     _
     _
-    (ap passes (sym c.check_lengths-verdict.ensures) ∙ sym c.passes.ensures ∙ c.if-passes.true)
+    (ap is_err (sym c.check_lengths-verdict.ensures) ∙ sym c.is_err.ensures.value ∙ c.if-is_err.false)
     c.clear.ensures
     c.run-ran.ensures
     c.run-ran.auto.slots
-    c.clear-then-passes.ensures
+    c.clear-2.ensures
 
-pub returns : goal.returns
-returns c =
+pub returns-then-is_err : goal.returns-then-is_err
+returns-then-is_err c =
     comes-refused
     _
     _
@@ -33,7 +33,7 @@ returns c =
     _
     c.check_lengths-verdict.result
     c.check_lengths-verdict.ensures
-    (sym c.passes.ensures ∙ c.if-passes.false)
+    (sym c.is_err.ensures.value ∙ c.if-is_err.true)
     _
     _
     _

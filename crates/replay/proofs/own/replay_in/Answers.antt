@@ -15,9 +15,9 @@ returns c =
     let sheet = c.args.sheet.now in
     let rules = c.args.rules.now in
     let says
-    : outcome (said c.replay.result) (row_of c.replay.new.slots) ≡ replay e sheet rules (row_of (take c.enough-n.result (replicate most_records c.empty-none.result)))
+    : outcome (said c.replay.result) (row_of c.replay.new.slots) ≡ replay e sheet rules (row_of (take c.min-n.result (replicate most_records c.empty-row.result)))
     = c.replay.ensures in
-    let row = row-lent c.enough-n.result c.args.slots c.enough-n.ensures c.empty-none.result in
+    let row = row-lent c.min-n.result c.args.slots c.min-n.ensures c.empty-row.result in
     ap (λ (o : Outcome). o.answer) says
-    ∙ ap (λ (l : List Slot). (replay e sheet rules l).answer) (rw c.empty-none.ensures at row)
+    ∙ ap (λ (l : List Slot). (replay e sheet rules l).answer) (rw c.empty-row.ensures at row)
     ∙ replay-at-most e sheet rules most_records c.args.slots (replay-few e)
