@@ -6,35 +6,21 @@ ghost use Rattle.std.specs.Prelude.{◌≡◌, ◌/◌, min, length, replicate};
 ghost use Rattle.sheet.specs.Editions.{record_bytes, most_records};
 ghost use Rattle.tally.specs.Tally.{nothing};
 ghost use Rattle.replay_spec.specs.Slots.{empty};
-ghost use Rattle.replay_spec.specs.Step.{state, taken};
-ghost use Rattle.replay_slots.specs.Said.{row_of, said_of_step};
+ghost use Rattle.replay_spec.specs.Step.{state};
+ghost use Rattle.replay_slots.specs.Said.{row_of};
 ghost use Rattle.replay_look.specs.After.{after_records, look_at, look_of};
 
-use replay_slots::{Slot, StepAnswer};
+use replay_slots::{Slot, Untaken};
 use sheet::edition::Edition;
+use sheet::limits::MOST_RECORDS;
 use sheet::{RecordNo, SlotNo};
 use tally::Tally;
 
 #[derive(Clone, Copy)]
 pub struct Look {
-    pub answer: StepAnswer,
+    pub answer: Result<(), Untaken>,
     pub tally: Tally,
     pub slot: Slot,
-}
-
-// No more records than the sheet has whole.
-fn upto(edition: Edition, records: usize, bytes: usize) -> usize
-    ensures { result ≡ min records (bytes / record_bytes edition) }
-{
-    let whole = edition.records_in(bytes);
-    if records < whole { records } else { whole }
-}
-
-// Before any record nothing is refused.
-fn untried() -> StepAnswer
-    ensures { said_of_step result ≡ taken }
-{
-    StepAnswer::Taken
 }
 
 fn look_from(
@@ -48,22 +34,15 @@ fn look_from(
     ensures { look_of result ≡ look_at at.0 (after_records edition rules.now sheet.now (state nothing (row_of slots.old)) (min records (length sheet.now / record_bytes edition))) }
 {
     let bytes = edition.record_bytes();
-    let n = upto(edition, records, sheet.len());
+    // No more records than the sheet has whole.
+    let n = records.min(edition.records_in(sheet.len()));
     let mut t = tally::nothing();
-    let mut answer = untried();
-    let mut k = 0;
-    while k < n {
-        let from = bytes * k;
-        let end = from + bytes;
-        answer = replay_step::step(
-            edition,
-            slots,
-            &mut t,
-            rules,
-            &sheet[from..end],
-            RecordNo(k),
-        );
-        k += 1;
+    // Before any record nothing is refused.
+    let mut answer = Ok(());
+    for k in 0..n {
+        let at = bytes * k;
+        let record = &sheet[at..at + bytes];
+        answer = replay_step::step(edition, slots, &mut t, rules, record, RecordNo(k));
     }
     Look {
         answer,
@@ -83,8 +62,7 @@ pub fn look_after(
 ) -> Look
     ensures { look_of result ≡ look_at at.0 (after_records edition rules.now sheet.now (state nothing (replicate (min slots most_records) empty)) (min records (length sheet.now / record_bytes edition))) }
 {
-    let none = replay_slots::empty();
-    let mut row = [none; sheet::limits::MOST_RECORDS];
-    let n = replay_slots::enough(slots);
+    let mut row = [replay_slots::empty(); MOST_RECORDS];
+    let n = slots.min(MOST_RECORDS);
     look_from(edition, sheet, rules, &mut row[..n], records, at)
 }

@@ -20,6 +20,6 @@ returns c =
     c.args.sheet.now
     (state nothing row)
     (min c.args.records (length c.args.sheet.now / record_bytes c.args.edition))) in
-    let says : look_of c.look_from.result ≡ seen (row_of (take c.enough-n.result (replicate most_records c.empty-none.result))) = c.look_from.ensures in
-    let row = row-lent c.enough-n.result c.args.slots c.enough-n.ensures c.empty-none.result in
-    says ∙ ap seen (rw c.empty-none.ensures at row)
+    let says : look_of c.look_from.result ≡ seen (row_of (take c.min-n.result (replicate most_records c.empty-row.result))) = c.look_from.ensures in
+    let row = row-lent c.min-n.result c.args.slots c.min-n.ensures c.empty-row.result in
+    says ∙ ap seen (rw c.empty-row.ensures at row)

@@ -1,4 +1,4 @@
-use Rattle.std.proofs.Common.{◌≡◌, ◌≤◌, ◌-◌}
+use Rattle.std.proofs.Common.{◌≡◌}
 use Rattle.tally.specs.Tally.{nothing}
 use Rattle.tally.specs.Said.{tally_of}
 use Rattle.replay_spec.specs.Step.{state, stepped}
@@ -8,10 +8,4 @@ use Rattle.replay_look.proofs.look_from.Given as goal
 
 -- what stands is what so many records leave
 abbrev pub invariant-loop-k : goal.invariant-loop-k
-invariant-loop-k l = record {
-  few : l.k ≤ l.n;
-  stands : stepped (said_of_step l.answer) (state (tally_of l.t) (row_of l.slots)) ≡ after_records l.edition l.rules l.sheet (state nothing (row_of l.fn.slots)) l.k;
-}
-
-abbrev pub decreases-loop-k : goal.decreases-loop-k
-decreases-loop-k l = l.n - l.k
+invariant-loop-k l = stepped (said_of_step l.answer) (state (tally_of l.t) (row_of l.slots)) ≡ after_records l.edition l.rules l.sheet (state nothing (row_of l.fn.slots)) l.k
