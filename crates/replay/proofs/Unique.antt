@@ -29,8 +29,8 @@ said-injective (Ok a) (Err r) f g e = cc
 said-injective (Err r) (Ok b) f g e = cc
 said-injective (Err r) (Err q) f g e =
     let n : number_of r.why ≡ number_of q.why = cc in
-    let k : r.«record».0 ≡ q.«record».0 = cc in
-    λ i. Err (record { why = number_of-injective r.why q.why n i; «record» = record { 0 = k i } })
+    let k : r.at.0 ≡ q.at.0 = cc in
+    λ i. Err (record { why = number_of-injective r.why q.why n i; at = record { 0 = k i } })
 
 -- two answers, tallies and rows that a step's promise admits are one
 pub step-unique : (o : Stepped) (r₁ r₂ : Result ⊤ Untaken) (t₁ t₂ : CodeTally) (ys zs : List CodeSlot)

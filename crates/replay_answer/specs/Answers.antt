@@ -14,7 +14,7 @@ result_of r = record { conclusion = literals_of r.conclusion; nodes = r.nodes; s
 
 unfoldable pub said : CodeResult Replayed Refusal → Answer
 said (Ok r) = accepted (result_of r)
-said (Err r) = refused (number_of r.why) r.«record».0
+said (Err r) = refused (number_of r.why) r.at.0
 
 -- each word of it is one that the machine can hold
 abbrev pub AnswerFits : CodeResult Replayed Refusal → Type 0

@@ -43,11 +43,11 @@ pub fn end(
 ) -> Result<Replayed, Refusal>
     ensures { said result ≡ ended verdict k.0 (tally_of t) (place_of last) }
 {
-    verdict.map_err(|why| Refusal { why, record: k })?;
+    verdict.map_err(|why| Refusal { why, at: k })?;
     let Some(Place { slot, .. }) = last else {
         return Err(Refusal {
             why: Reason::NotHeld,
-            record: k,
+            at: k,
         });
     };
     Ok(Replayed {

@@ -34,8 +34,5 @@ pub fn fits(edition: Edition, rules: usize, bytes: usize, t: Tally) -> bool
 pub fn answered(verdict: Result<(), Reason>, number: RecordNo) -> Result<(), Untaken>
     ensures { said_of_step result ≡ answered number.0 verdict }
 {
-    verdict.map_err(|why| Untaken::Refused(Refusal {
-        why,
-        record: number,
-    }))
+    verdict.map_err(|why| Untaken::Refused(Refusal { why, at: number }))
 }

@@ -23,8 +23,8 @@ said_of_step-injective (Ok a) (Err U.Unfit) e = cc
 said_of_step-injective (Err (U.Refused r)) (Ok a) e = cc
 said_of_step-injective (Err (U.Refused r)) (Err (U.Refused q)) e =
     let n : number_of r.why ≡ number_of q.why = cc in
-    let k : r.«record».0 ≡ q.«record».0 = cc in
-    λ i. Err (U.Refused (record { why = number_of-injective r.why q.why n i; «record» = record { 0 = k i } }))
+    let k : r.at.0 ≡ q.at.0 = cc in
+    λ i. Err (U.Refused (record { why = number_of-injective r.why q.why n i; at = record { 0 = k i } }))
 said_of_step-injective (Err (U.Refused r)) (Err U.Unfit) e = cc
 said_of_step-injective (Err U.Unfit) (Ok a) e = cc
 said_of_step-injective (Err U.Unfit) (Err (U.Refused r)) e = cc

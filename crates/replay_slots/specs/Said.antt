@@ -54,5 +54,5 @@ decided_of t (Err why) = record { verdict = Err why; tally = t; place = nowhere 
 
 unfoldable pub said_of_step : Result ⊤ Untaken → Step
 said_of_step (Ok tt) = taken
-said_of_step (Err (U.Refused r)) = refused (number_of r.why) r.«record».0
+said_of_step (Err (U.Refused r)) = refused (number_of r.why) r.at.0
 said_of_step (Err U.Unfit) = unfit
