@@ -1,4 +1,3 @@
-pub mod Copies
 pub mod Fronts
 pub mod Narrowed
 pub mod Sounder

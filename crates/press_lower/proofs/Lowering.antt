@@ -6,6 +6,9 @@ use native.Mathlib.Omega.{arith}
 use lib.ListN.{length, get_or}
 use Rattle.base.specs.Folds.{fall}
 use Rattle.clause.specs.Clauses.{Literal}
+use Rattle.clause.specs.declared.Clause.{Clause}
+use Rattle.press_nodes.specs.declared.link.Link.{Link}
+use Rattle.press_used.specs.declared.table.Used.{Used}
 use Rattle.clause.specs.Denote.{width}
 use Rattle.sheet.specs.Records.{Node}
 use Rattle.press_spec.specs.Links.{links}
@@ -23,27 +26,27 @@ use Rattle.press_spec.proofs.OnTheWay.{risen-rebuilt}
 use Rattle.press_nodes.specs.Tables.{links_in, nodes_in}
 use Rattle.press_nodes.proofs.Tables.{links-nodes, nodes-length}
 use Rattle.press_rebuild.proofs.Sounds.{SoundNodes, sound-earlier, rebuilt-sound}
-use Rattle.press_lowered.specs.Literals.{Narrow}
+use Rattle.press_reach.specs.Literals.{Narrow}
 use Rattle.press_used.specs.Table.{use_at}
 use Rattle.press_lower.proofs.Narrowed.{collected-narrow, risen-narrow}
 use Rattle.press_lower.proofs.Sounder.{return-sound}
 
 -- the units of tables of links and clauses
-pub units_in : (v w : ℕ) (h c uses : List ℕ) (from : ℕ) (low : List Lowered) → w ≡ v → length h ≡ length uses
+pub units_in : (v w : ℕ) (h : List Link) (c : List Clause) (uses : List ℕ) (from : ℕ) (low : List Lowered) → w ≡ v → length h ≡ length uses
     → ((m : ℕ) → get_or uses m 0 ≡ uses_from (links_in h) from m)
-    → ((links : List ℕ) (count : ℕ → ℕ) → length links ≡ length uses → ((m : ℕ) → get_or uses m 0 ≡ count m)
+    → ((links : List Link) (count : ℕ → ℕ) → length links ≡ length uses → ((m : ℕ) → get_or uses m 0 ≡ count m)
     → low ≡ (fall (collect_turn w (nodes_in links c) count) (suc from) (none_lowered (length links))).low)
     → low ≡ (collected v (ended (nodes_in h c) from)).low
 unfolding collected
 units_in v w h c uses from low same size f told = rw (links-nodes h c, nodes-length h c, ← same) (told h (uses_from (links_in h) from) size f)
 
-pub units-built : (v : ℕ) (h c : List ℕ) (from : ℕ) (low : List Lowered) (b : Built) → low ≡ (collected v (ended (nodes_in h c) from)).low
+pub units-built : (v : ℕ) (h : List Link) (c : List Clause) (from : ℕ) (low : List Lowered) (b : Built) → low ≡ (collected v (ended (nodes_in h c) from)).low
     → b ≡ rebuild (nodes_in h c) (fates_by (trim (links_in h) from) (low_at low) (links_in h)) → b ≡ units_built v (ended (nodes_in h c) from)
 unfolding units_built
 units-built v h c from low b units made = made ∙ rw (links-nodes h c, units)
 
 -- and its univalents
-pub risen-in : (h c marks used : List ℕ) (from : ℕ) → marks ≡ trim (links_in h) from → ((m : ℕ) → use_at used m ≡ used_on (trimmed (links_in h) marks) m)
+pub risen-in : (h : List Link) (c : List Clause) (marks : List ℕ) (used : List Used) (from : ℕ) → marks ≡ trim (links_in h) from → ((m : ℕ) → use_at used m ≡ used_on (trimmed (links_in h) marks) m)
     → risen_by marks (use_at used) (nodes_in h c) ≡ risen (ended (nodes_in h c) from)
 unfolding risen
 risen-in h c marks used from e f =

@@ -22,7 +22,7 @@ use Rattle.press_spec.proofs.Nodes.{link-at, everywhere}
 use Rattle.press_spec.proofs.Singles.{none-lowered, none-long, never-lowered, lower_long, lower-cases}
 use Rattle.press_nodes.specs.Tables.{Sound}
 use Rattle.press_rebuild.proofs.Sounds.{SoundNodes}
-use Rattle.press_lowered.specs.Literals.{Narrow}
+use Rattle.press_reach.specs.Literals.{Narrow}
 use Rattle.press_lowered.proofs.Searched.{single-narrow}
 
 -- of k nodes

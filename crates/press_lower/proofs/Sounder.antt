@@ -14,7 +14,7 @@ use Rattle.press_spec.specs.Lower.{Lowered, staying, lowered, Return, conclusion
 use Rattle.press_spec.proofs.Nodes.{length_more, node_at-before, node_at-end}
 use Rattle.press_nodes.specs.Tables.{Sound}
 use Rattle.press_rebuild.proofs.Sounds.{SoundNodes}
-use Rattle.press_lowered.specs.Literals.{Narrow}
+use Rattle.press_reach.specs.Literals.{Narrow}
 
 more-sound : (s : List Node) (x : Node) → SoundNodes s → Sound (length s) (link x) → SoundNodes (s ++ (x ∷ []))
 more-sound s x f h n i = elim (dec_lt n (length s)) [

@@ -6,6 +6,10 @@ ghost use Rattle.press_spec.specs.Units.{collected, units_built};
 ghost use Rattle.press_nodes.specs.Tables.{nodes_in, Nodes};
 ghost use Rattle.press_lowered.specs.Table.{low_in};
 
+use clause::Clause;
+use press_nodes::fate::Fate;
+use press_nodes::link::Link;
+use press_reach::literal::Literal;
 use press_trim::uses;
 use press_units::{collect, cuts};
 use sheet::NodeNo;
@@ -15,10 +19,10 @@ use sheet::limits::MOST_NODES;
 // "Uses of collected nodes are cut; the rebuild rule of 01 follows, over all nodes."
 pub(crate) fn cut_units(
     edition: Edition,
-    links: &mut [u64],
-    clauses: &mut [u64],
+    links: &mut [Link],
+    clauses: &mut [Clause],
     from: NodeNo,
-    low: &mut [u16],
+    low: &mut [Option<Literal>],
     stand_ins: &mut [u16],
 )
     requires nodes { Nodes links.old clauses.old }
@@ -27,10 +31,14 @@ pub(crate) fn cut_units(
     ensures built { built (nodes_in links.new clauses.new) stand_ins.new ≡ units_built (variables edition) (ended (nodes_in links.old clauses.old) from.0) }
 {
     let n = links.len();
+    let mut kept = [0u8; MOST_NODES];
+    let kept = &mut kept[..n];
     let mut counts = [0u16; MOST_NODES];
-    let mut fates = [0u8; MOST_NODES];
-    uses::uses_with(links, from, &mut fates[..n], &mut counts[..n]);
-    collect::collect_units(edition.variables(), clauses, &counts[..n], from, low);
-    cuts::cut_uses(links, low, &mut fates[..n]);
-    press_rebuild::rebuild(links, clauses, &fates[..n], stand_ins);
+    let counts = &mut counts[..n];
+    let mut fates = [Fate::Lost; MOST_NODES];
+    let fates = &mut fates[..n];
+    uses::uses_with(links, from, kept, counts);
+    collect::collect_units(edition.variables(), clauses, counts, from, low);
+    cuts::cut_uses(links, low, kept, fates);
+    press_rebuild::rebuild(links, clauses, fates, stand_ins);
 }

@@ -6,17 +6,21 @@ ghost use Rattle.press_spec.specs.Univalents.{risen};
 ghost use Rattle.press_nodes.specs.Tables.{nodes_in, Nodes};
 ghost use Rattle.press_lowered.specs.Table.{low_in};
 
+use clause::Clause;
+use press_nodes::link::Link;
+use press_reach::literal::Literal;
 use press_trim::trim;
 use press_univalents::rise;
+use press_used::table::Used;
 use press_used::walk;
 use sheet::NodeNo;
 use sheet::limits::MOST_NODES;
 
 pub(crate) fn cut_univalents(
-    links: &mut [u64],
-    clauses: &mut [u64],
+    links: &mut [Link],
+    clauses: &mut [Clause],
     from: NodeNo,
-    low: &mut [u16],
+    low: &mut [Option<Literal>],
     stand_ins: &mut [u16],
 )
     requires nodes { Nodes links.old clauses.old }
@@ -26,8 +30,10 @@ pub(crate) fn cut_univalents(
 {
     let n = links.len();
     let mut kept = [0u8; MOST_NODES];
-    let mut used = [0u16; MOST_NODES];
-    trim::trim(links, from, &mut kept[..n]);
-    walk::used_on(links, &kept[..n], &mut used[..n]);
-    rise::rise(links, clauses, &kept[..n], &used[..n], low, stand_ins);
+    let kept = &mut kept[..n];
+    let mut used = [Used::Unused; MOST_NODES];
+    let used = &mut used[..n];
+    trim::trim(links, from, kept);
+    walk::used_on(links, kept, used);
+    rise::rise(links, clauses, kept, used, low, stand_ins);
 }
