@@ -1,12 +1,15 @@
 -- One law for each way through the marking of rule lines.
 use mathlib.Core.Path.{◌≡◌, refl, sym, ap, ap₂, ◌∙◌}
 use mathlib.Core.List.{List, [], ◌∷◌, ◌++◌}
-use Prim.Native.Nat.{ℕ, ◌+◌, ◌<◌, ◌≤◌}
+use Rattle.std.proofs.Common.{sum}
+use Rattle.std.proofs.lemmas.List.Recursion.{is_sum_by}
+use Rattle.std.proofs.lemmas.List.Sums.{sum_by-cons}
+use Prim.Native.Nat.{ℕ, suc, ◌+◌, ◌<◌, ◌≤◌}
 use native.Mathlib.Omega.{arith}
-use lib.ListN.{length, get_or, set, take, replicate, drop_of_length-le}
+use lib.ListN.{length, set, take, replicate, drop_of_length-le}
 use lib.ListN.{drop as after}
 use lib.Seq.{length-take-le, take_at}
-use Rattle.base.proofs.Lists.{drop_more, Each}
+use Rattle.base.proofs.Lists.{Each}
 use Rattle.base.specs.Bytes.{put}
 use Rattle.press_spec.specs.Links.{Link, leaf, join, link_at}
 use Rattle.press_spec.specs.Drops.{mark_link, mark_lines, total}
@@ -37,14 +40,13 @@ module _ (s : List Link) (k : ℕ) where
 
 -- ---- counting
 
-pub total-more : (l : List ℕ) (i : ℕ) → i < length l → total (after i l) ≡ get_or l i 0 + total (after (i + 1) l)
+pub total-sum : (l : List ℕ) → total l ≡ sum l
 unfolding total
-total-more l i h = ap total (drop_more l i 0 h)
+total-sum = is_sum_by total (λ x. x) refl (λ x l. refl)
 
-pub total-none : (l : List ℕ) → total (after (length l) l) ≡ 0
-unfolding total
-total-none [] = refl
-total-none (x ∷ l) = total-none l
+pub marks-few : (l : List ℕ) → Each 1 l → sum l ≤ length l
+marks-few [] f = omega arith
+marks-few (x ∷ l) f = omega (arith, sum_by-cons (λ (n : ℕ). n) x l, f 0, marks-few l (λ i. f (suc i)))
 
 -- ---- the part of the marks that is lent
 

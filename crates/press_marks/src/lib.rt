@@ -9,8 +9,8 @@ ghost use Rattle.press_spec.specs.Drops.{mark_link, mark_lines, total};
 ghost use Rattle.press_nodes.specs.Tables.{links_in, Links};
 ghost use Rattle.press_marks.specs.Marking.{LinesBelow};
 
+use press_nodes::link;
 use press_nodes::link::Link;
-use press_nodes::{clear, link};
 use sheet::NodeNo;
 
 // The line of node k is marked, if it is a given.
@@ -19,12 +19,9 @@ fn mark_turn(links: &[Link], k: NodeNo, core: &mut [u8])
     requires k_in_bounds { (k.0 < length links.now) × LinesBelow (length core.old) (links_in links.now) }
     ensures { core.new ≡ mark_link (link_at (links_in links.now) k.0) core.old }
 {
-    let found = link::link_at(links, k);
-    let Link::Leaf(line) = found else {
-        return;
-    };
-    let i = line.index();
-    core[i] = 1;
+    if let Link::Leaf(line) = link::link_at(links, k) {
+        core[line.index()] = 1;
+    }
 }
 
 // Every line of a given node, and no other.
@@ -33,11 +30,9 @@ fn mark_core(links: &[Link], core: &mut [u8])
     requires lines_below { LinesBelow (length core.old) (links_in links.now) }
     ensures { core.new ≡ mark_lines (links_in links.now) (replicate (length core.old) 0) }
 {
-    clear::clear_marks(core);
-    let mut k = 0;
-    while k < links.len() {
+    core.fill(0);
+    for k in 0..links.len() {
         mark_turn(links, NodeNo(k as u16), core);
-        k += 1;
     }
 }
 
@@ -46,13 +41,7 @@ fn count_marks(core: &[u8]) -> u16
     requires { (length core.now ≤ most_lines) × ((i : ℕ) → get_or core.now i 0 ≤ 1) }
     ensures { result ≡ total core.now }
 {
-    let mut marked: u16 = 0;
-    let mut i = core.len();
-    while 0 < i {
-        i -= 1;
-        marked += core[i] as u16;
-    }
-    marked
+    core.iter().map(|mark| u16::from(*mark)).sum()
 }
 
 // The marks of the first `lines` bytes, and how many there are.

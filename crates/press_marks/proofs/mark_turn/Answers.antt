@@ -8,17 +8,15 @@ use Rattle.press_nodes.proofs.Found.{found-leaf, found-join}
 use Rattle.press_marks.proofs.Cores.{join-unmarked, line-within, line_marked}
 use Rattle.press_marks.proofs.mark_turn.Goals as goal
 
+pub bounds-core-index : goal.bounds-core-index
+bounds-core-index c =
+    let h : c.args.k.0 < length (links_in c.args.links.now) = rw (links-length c.args.links.now) c.requires.k_in_bounds.0 in
+    omega (arith, line-within _ c.args.k.0 _ (found-leaf _ _ _ c.link_at.ensures c.in-Leaf.is) (length c.args.core.now) h c.requires.k_in_bounds.1)
+
+pub returns-in-Leaf : goal.returns-in-Leaf
+returns-in-Leaf c =
+    ap (λ (i : ℕ). set c.args.core.now i 1) c.index.ensures
+    ∙ line_marked _ _ _ (found-leaf _ _ _ c.link_at.ensures c.in-Leaf.is) c.args.core.now
+
 pub returns-in_default : goal.returns-in_default
-returns-in_default c = join-unmarked _ _ _ _ _ _ (found-join _ _ _ _ _ c.link_at-found.ensures c.in_default.is)
-
-pub bounds-core-i : goal.bounds-core-i
-bounds-core-i c = let a = c.args in
-    let s = links_in a.links.now in
-    let h : a.k.0 < length s = rw (links-length a.links.now) c.requires.k_in_bounds.0 in
-    omega (arith, c.index-i.ensures, line-within s a.k.0 _ (found-leaf _ _ _ c.link_at-found.ensures c.in-Leaf.is) (length a.core.now) h c.requires.k_in_bounds.1)
-
-pub returns : goal.returns
-returns c = let a = c.args in
-    let s = links_in a.links.now in
-    ap (λ (i : ℕ). set a.core.now i 1) c.index-i.ensures
-    ∙ line_marked s a.k.0 _ (found-leaf _ _ _ c.link_at-found.ensures c.in-Leaf.is) a.core.now
+returns-in_default c = join-unmarked _ _ _ _ _ _ (found-join _ _ _ _ _ c.link_at.ensures c.in_default.is)
