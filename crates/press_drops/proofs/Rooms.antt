@@ -1,9 +1,12 @@
 -- Room for the records that are still to come, and what the turn at a node, with its drops, makes of it.
 use mathlib.Core.Path.{◌≡◌, refl, sym, ap, ◌∙◌}
-use mathlib.Core.Bool.{true, false}
+use mathlib.Core.Bool.{Bool, true, false, not}
+use lib.Dec.{eqb}
+use borrow.Author.Tests.{eq-eqb, eqb-true}
 use mathlib.Core.List.{List, [], ◌∷◌, ◌++◌}
 use Prim.Native.Nat.{ℕ, zero, suc, ◌+◌, ◌*◌, ◌<◌, ◌≤◌, min, max}
 use native.Mathlib.Omega.{arith}
+use native.Mathlib.Decide.{ℕ_discrete}
 use lib.ListN.{length, length-append, drop_of_length-le}
 use lib.ListN.{drop as after}
 use Rattle.base.proofs.Bytes.{length-put}
@@ -82,6 +85,18 @@ module _ (last : List ℕ) (k n : ℕ) (e : Emission) where
   unfolding drop_by
   last-room h r = rw (← h) at r
 
+-- ---- two parents, or one that is named twice
+
+pub differ : (l r : ℕ) → true ≡ not (eqb l r) → l ≡ r → ⊥
+differ l r e q = let z : true ≡ false = rw (eq-eqb l r q) at e in cc
+
+pub alike : (l r : ℕ) → false ≡ not (eqb l r) → l ≡ r
+alike l r e = eqb-true l r (by (eqb l r) e)
+  where
+    by : (u : Bool) → false ≡ not u → u ≡ true
+    by true e = refl
+    by false e = e
+
 -- ---- a node and its drops
 
 module _ (s : List Node) (k : ℕ) (e : Emission) where
@@ -111,36 +126,43 @@ module _ {s : List Node} {last : List ℕ} {k : ℕ} {e e₁ : Emission} {l r : 
   unfolding records_at emit_all
   whole = rw (link-at s k, d.first)
 
-  pub same-room : l ≡ r → Roomy (drop_by last k l) e₁
-  same-room q = rw (drops_same d.joined q) at drops-room
-
-  pub turn-same : {e₂ : Emission} → l ≡ r → e₂ ≡ emit_all (drop_by last k l) e₁ → e₂ ≡ emit_all (records_at s k) e
-  turn-same q z = z ∙ rw (← drops_same d.joined q) whole
-
-  module _ {low high : ℕ} (q : l ≡ r → ⊥) (lo : low ≡ min l r) (hi : high ≡ max l r) where
+  module _ {low : ℕ} (lo : low ≡ min l r) where
     pub low-inside : low < length last
     low-inside = omega (arith, joined-inside d.joined)
 
-    pub high-inside : high < length last
-    high-inside = omega (arith, joined-inside d.joined)
+    same : l ≡ r → drops ≡ drop_by last k low
+    same q = let z : low ≡ l = omega arith in rw z (drops_same d.joined q)
 
-    two : drops ≡ drop_by last k low ++ drop_by last k high
-    two = rw (lo, hi) (drops-two d.joined q)
+    pub turn-same : l ≡ r → {e₂ : Emission} → e₂ ≡ emit_all (drop_by last k low) e₁ → e₂ ≡ emit_all (records_at s k) e
+    turn-same q z = z ∙ rw (← same q) whole
+
+    two : (l ≡ r → ⊥) → drops ≡ drop_by last k low ++ drop_by last k (max l r)
+    two q = rw lo (drops-two d.joined q)
 
     pub low-room : Roomy (drop_by last k low) e₁
-    low-room = roomy-first (drop_by last k low) (drop_by last k high) e₁ (rw two at drops-room)
+    low-room = elim (ℕ_discrete l r) [
+      | yes q ↦ rw (same q) at drops-room
+      | no q ↦ roomy-first (drop_by last k low) (drop_by last k (max l r)) e₁ (rw (two q) at drops-room)
+    ]
 
-    module _ {e₂ : Emission} (second : e₂ ≡ emit_all (drop_by last k low) e₁) where
-      pub high-room : Roomy (drop_by last k high) e₂
-      high-room = rw second (roomy-rest (drop_by last k low) (drop_by last k high) e₁ (rw two at drops-room))
+    module _ {high : ℕ} (hi : high ≡ max l r) (q : l ≡ r → ⊥) where
+      pub high-inside : high < length last
+      high-inside = omega (arith, joined-inside d.joined)
 
-      pub turn_two : {e₃ : Emission} → e₃ ≡ emit_all (drop_by last k high) e₂ → e₃ ≡ emit_all (records_at s k) e
-      turn_two z =
-          z
-          ∙ ap (emit_all (drop_by last k high)) second
-          ∙ sym (emit_all-append (drop_by last k low) (drop_by last k high) e₁)
-          ∙ ap (λ (rs : List Record). emit_all rs e₁) (sym two)
-          ∙ whole
+      both : drops ≡ drop_by last k low ++ drop_by last k high
+      both = rw hi (two q)
+
+      module _ {e₂ : Emission} (second : e₂ ≡ emit_all (drop_by last k low) e₁) where
+        pub high-room : Roomy (drop_by last k high) e₂
+        high-room = rw second (roomy-rest (drop_by last k low) (drop_by last k high) e₁ (rw both at drops-room))
+
+        pub turn_two : {e₃ : Emission} → e₃ ≡ emit_all (drop_by last k high) e₂ → e₃ ≡ emit_all (records_at s k) e
+        turn_two z =
+            z
+            ∙ ap (emit_all (drop_by last k high)) second
+            ∙ sym (emit_all-append (drop_by last k low) (drop_by last k high) e₁)
+            ∙ ap (λ (rs : List Record). emit_all rs e₁) (sym both)
+            ∙ whole
 
 -- ---- the loop: what is left to emit
 

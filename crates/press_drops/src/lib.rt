@@ -2,13 +2,14 @@
 // never dropped."
 #![tactic(auto)]
 
-ghost use Rattle.std.specs.Prelude.{◌≡◌, ◌<◌, min, max, length};
+ghost use Rattle.std.specs.Prelude.{◌≡◌, ◌<◌, length};
 ghost use Rattle.press_spec.specs.Drops.{with_drops};
 ghost use Rattle.press_nodes.specs.Tables.{links_in, nodes_in, Nodes};
 ghost use Rattle.press_last.specs.LastUses.{last_uses, drop_by};
 ghost use Rattle.press_emit.specs.Emission.{emission_of, unwritten, emit_all, Roomy};
 ghost use Rattle.press_drops.specs.Turns.{records_at};
 
+use clause::Clause;
 use press_emit::Emitted;
 use press_nodes::link::Link;
 use press_nodes::{link, node};
@@ -16,93 +17,77 @@ use sheet::edition::Edition;
 use sheet::limits::CAPACITY;
 use sheet::{NodeNo, Record};
 
-// The drop of n, which node k names, unless a later node names it.
-fn emit_last(last: &[u16], k: NodeNo, n: NodeNo, out: &mut [u8], e: Emitted) -> Emitted
-    requires n_in_bounds { n.0 < length last.now }
-    requires roomy { Roomy (drop_by last.now k.0 n.0) (emission_of out.old e) }
-    ensures { emission_of out.new result ≡ emit_all (drop_by last.now k.0 n.0) (emission_of out.old e) }
-{
-    if press_last::used_after(last, k, n) {
-        return e;
+// The nodes in their order, and where each is used last.
+#[derive(Clone, Copy)]
+struct Ordered<'a> {
+    links: &'a [Link],
+    clauses: &'a [Clause],
+    last: &'a [u16],
+}
+
+impl Ordered<'_> {
+    // The drop of n, which node k names, unless a later node names it.
+    fn emit_last(&self, k: NodeNo, n: NodeNo, emitted: &mut Emitted)
+        requires n_in_bounds { n.0 < length self.now.last.now }
+        requires roomy { Roomy (drop_by self.now.last.now k.0 n.0) (emission_of emitted.old) }
+        ensures written { emission_of emitted.new ≡ emit_all (drop_by self.now.last.now k.0 n.0) (emission_of emitted.old) }
+        ensures same_reference { emitted.new.out.ghost_name ≡ emitted.old.out.ghost_name }
+    {
+        if !press_last::used_after(self.last, k, n) {
+            emitted.emit_record(Record::Drop(n));
+        }
     }
-    press_emit::emit_record(out, e, Record::Drop(n))
-}
 
-// Node k, and the drops of what it names last: two of them by rising number.
-fn emit_turn(
-    links: &[Link],
-    clauses: &[Clause],
-    last: &[u16],
-    k: NodeNo,
-    out: &mut [u8],
-    e: Emitted,
-) -> Emitted
-    requires nodes { Nodes links.now clauses.now }
-    requires k_in_bounds { (k.0 < length links.now) × (last.now ≡ last_uses (links_in links.now)) }
-    requires roomy { Roomy (records_at (nodes_in links.now clauses.now) k.0) (emission_of out.old e) }
-    ensures { emission_of out.new result ≡ emit_all (records_at (nodes_in links.now clauses.now) k.0) (emission_of out.old e) }
-{
-    let record = node::node_at(links, clauses, k);
-    let with_node = press_emit::emit_record(out, e, record);
-    let found = link::link_at(links, k);
-    let Link::Join { left, right, .. } = found else {
-        return with_node;
-    };
-    if left.0 == right.0 {
-        return emit_last(last, k, left, out, with_node);
+    // Node k, and the drops of what it names last: two of them by rising number.
+    fn emit_turn(&self, k: NodeNo, emitted: &mut Emitted)
+        requires nodes { Nodes self.now.links.now self.now.clauses.now }
+        requires k_in_bounds { (k.0 < length self.now.links.now) × (self.now.last.now ≡ last_uses (links_in self.now.links.now)) }
+        requires roomy { Roomy (records_at (nodes_in self.now.links.now self.now.clauses.now) k.0) (emission_of emitted.old) }
+        ensures written { emission_of emitted.new ≡ emit_all (records_at (nodes_in self.now.links.now self.now.clauses.now) k.0) (emission_of emitted.old) }
+        ensures same_reference { emitted.new.out.ghost_name ≡ emitted.old.out.ghost_name }
+    {
+        let record = node::node_at(self.links, self.clauses, k);
+        emitted.emit_record(record);
+        let Link::Join { left, right, .. } = link::link_at(self.links, k) else {
+            return;
+        };
+        let low = left.min(right);
+        let high = left.max(right);
+        self.emit_last(k, low, emitted);
+        if left != right {
+            self.emit_last(k, high, emitted);
+        }
     }
-    let low = lower(left, right);
-    let high = higher(left, right);
-    let with_low = emit_last(last, k, low, out, with_node);
-    emit_last(last, k, high, out, with_low)
-}
-
-fn lower(left: NodeNo, right: NodeNo) -> NodeNo
-    ensures { result.0 ≡ min left.0 right.0 }
-{
-    if left.0 < right.0 { left } else { right }
-}
-
-fn higher(left: NodeNo, right: NodeNo) -> NodeNo
-    ensures { result.0 ≡ max left.0 right.0 }
-{
-    if left.0 < right.0 { right } else { left }
-}
-
-// Fills the table of last uses, which is lent; then each node and the drops after it.
-fn emit_with(
-    edition: Edition,
-    links: &[Link],
-    clauses: &[Clause],
-    last: &mut [u16],
-    out: &mut [u8],
-) -> Emitted
-    requires nodes { Nodes links.now clauses.now }
-    requires last_len { length last.old ≡ length links.now }
-    requires roomy { Roomy (with_drops (nodes_in links.now clauses.now)) (unwritten edition out.old) }
-    ensures { emission_of out.new result ≡ emit_all (with_drops (nodes_in links.now clauses.now)) (unwritten edition out.old) }
-{
-    press_last::last_uses(links, last);
-    let mut e = Emitted {
-        edition,
-        records: 0,
-        tally: tally::nothing(),
-    };
-    let mut k = 0;
-    while k < links.len() {
-        e = emit_turn(links, clauses, last, NodeNo(k as u16), out, e);
-        k += 1;
-    }
-    e
 }
 
 // Every node in order, with the drops after it.
-pub fn emit_records(edition: Edition, links: &[Link], clauses: &[Clause], out: &mut [u8]) -> Emitted
+pub fn emit_records<'a>(
+    edition: Edition,
+    links: &[Link],
+    clauses: &[Clause],
+    out: &'a mut [u8],
+) -> Emitted<'a>
     requires nodes { Nodes links.now clauses.now }
     requires roomy { Roomy (with_drops (nodes_in links.now clauses.now)) (unwritten edition out.old) }
-    ensures { emission_of out.new result ≡ emit_all (with_drops (nodes_in links.now clauses.now)) (unwritten edition out.old) }
+    ensures written { emission_of result ≡ emit_all (with_drops (nodes_in links.now clauses.now)) (unwritten edition out.old) }
+    ensures same_reference { result.out.ghost_name ≡ out.entry.ghost_name }
 {
     let n = links.len();
     let mut last = [0u16; CAPACITY];
-    emit_with(edition, links, clauses, &mut last[..n], out)
+    press_last::last_uses(links, &mut last[..n]);
+    let ordered = Ordered {
+        links,
+        clauses,
+        last: &last[..n],
+    };
+    let mut emitted = Emitted {
+        edition,
+        out,
+        records: 0,
+        tally: tally::nothing(),
+    };
+    for k in 0..n {
+        ordered.emit_turn(NodeNo(k as u16), &mut emitted);
+    }
+    emitted
 }

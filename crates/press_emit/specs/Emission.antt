@@ -18,8 +18,8 @@ pub record Emission : Type 0 where
 abbrev pub emission : Edition → List ℕ → ℕ → Tally → Emission
 emission edition out records tally = record { edition = edition; out = out; records = records; tally = tally }
 
-abbrev pub emission_of : List ℕ → Emitted → Emission
-emission_of out e = emission e.edition out e.records (tally_of e.tally)
+abbrev pub emission_of : Emitted → Emission
+emission_of e = emission e.edition e.out.now e.records (tally_of e.tally)
 
 -- before the first record
 abbrev pub unwritten : Edition → List ℕ → Emission

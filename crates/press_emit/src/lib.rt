@@ -1,7 +1,7 @@
 // The records of the pressed sheet, written one after another and tallied: the result has the "record count, node count, step count, peak".
 #![tactic(auto)]
 
-ghost use Rattle.std.specs.Prelude.{◌≡◌, [], ◌∷◌};
+ghost use Rattle.std.specs.Prelude.{◌≡◌, [], ◌∷◌, length};
 ghost use Rattle.sheet.specs.Denote.{record_of};
 ghost use Rattle.press_emit.specs.Emission.{emission_of, emit_record, Roomy};
 
@@ -9,24 +9,30 @@ use sheet::edition::Edition;
 use sheet::{Record, RecordNo};
 use tally::Tally;
 
-// The records written so far, in which edition, and the tally of them.
-#[derive(Clone, Copy)]
-pub struct Emitted {
+// A sheet that is being written: where, in which edition, the records so far, and the tally of them.
+#[derive(Drop)]
+pub struct Emitted<'a> {
     pub edition: Edition,
+    pub out: &'a mut [u8],
     pub records: u16,
     pub tally: Tally,
 }
 
-// One record more.
-pub fn emit_record(out: &mut [u8], e: Emitted, r: Record) -> Emitted
-    requires { Roomy (record_of r ∷ []) (emission_of out.old e) }
-    ensures { emission_of out.new result ≡ emit_record (record_of r) (emission_of out.old e) }
-{
-    let edition = e.edition;
-    sheet_write::put_record(edition, out, RecordNo(e.records as usize), r);
-    Emitted {
-        edition,
-        records: e.records + 1,
-        tally: tally::counted(e.tally, r),
+impl<'a> Emitted<'a> {
+    // One record more.
+    #[tactic(auto, unfolding(crate::specs::Emission::emit_record))]
+    pub fn emit_record(&mut self, r: Record)
+        requires { Roomy (record_of r ∷ []) (emission_of self.old) }
+        ensures written { emission_of self.new ≡ emit_record (record_of r) (emission_of self.old) }
+        ensures same_reference { self.new.out.ghost_name ≡ self.old.out.ghost_name }
+    {
+        sheet_write::put_record(
+            self.edition,
+            self.out,
+            RecordNo(usize::from(self.records)),
+            r,
+        );
+        self.records += 1;
+        self.tally = tally::counted(self.tally, r);
     }
 }
