@@ -12,6 +12,7 @@ ghost use Rattle.press_write.specs.Reported.{reported};
 
 use clause::Clause;
 use press_nodes::clause_table;
+use press_nodes::link::Link;
 use press_spec::Order;
 use sheet::NodeNo;
 use sheet::edition::Edition;
@@ -32,8 +33,8 @@ pub struct Pressed {
 pub fn write(
     edition: Edition,
     order: Order,
-    links: &[u64],
-    clauses: &[u64],
+    links: &[Link],
+    clauses: &[Clause],
     lines: usize,
     out: &mut [u8],
     marks: &mut [u8],

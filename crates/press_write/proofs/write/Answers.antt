@@ -1,3 +1,4 @@
+use borrow.Author.Rules.{rules}
 use native.Mathlib.Omega.{arith}
 use mathlib.Core.Path.{ap, ◌∙◌}
 use Rattle.base.specs.Bytes.{put}
@@ -7,22 +8,27 @@ use Rattle.press_write.proofs.Wholes.{all-written, all-reported, some-node, last
 use Rattle.press_write.proofs.write.Goals as goal
 
 pub overflow_sub-sink : goal.overflow_sub-sink
-overflow_sub-sink c = let st = c in omega (arith, some-node st.args.links.now st.args.clauses.now st.requires.emittable)
+overflow_sub-sink c =
+    omega (arith, some-node c.args.links.now c.args.clauses.now c.requires.emittable)
 
 pub clause_at-requires : goal.clause_at-requires
-clause_at-requires c = let st = c in omega (arith, st.requires.nodes.size, some-node st.args.links.now st.args.clauses.now st.requires.emittable)
+clause_at-requires c = omega (arith, c.requires.nodes.size, some-node c.args.links.now c.args.clauses.now c.requires.emittable)
 
 pub mark_lines-marked-requires : goal.mark_lines-marked-requires
 mark_lines-marked-requires c = let fit = c.requires.emittable in
     record { links = c.requires.nodes.linked; lines_le_most_lines = (fit.lines-few, fit.marks-enough, lines-below c.args.links.now c.args.clauses.now fit) }
 
-pub returns : goal.returns
-returns c = let a = c.args in
+pub returns-clause-report : goal.returns-clause-report
+returns-clause-report c =
+    let a = c.args in
     let fit = c.requires.emittable in
-    let m = c.mark_lines-marked.ensures in
     let core = same-core a.links.now a.clauses.now fit in
-    let e = c.emit_records-emitted.ensures in
-    record {
-      report = all-reported fit a.order (emission_of _ _) e (last-concludes a.links.now a.clauses.now fit _ c.clause_at.ensures) (m.marked ∙ ap total core);
-      lent = (all-written fit (emission_of _ _) e, m.marks ∙ ap (put a.marks.now 0) core);
-    }
+    all-reported fit a.order (emission_of c.emit_records-emitted.result) c.emit_records-emitted.ensures.written (last-concludes a.links.now a.clauses.now fit _ c.clause_at.ensures) (c.mark_lines-marked.ensures.marked ∙ ap total core)
+
+pub returns-clause-lent : goal.returns-clause-lent
+returns-clause-lent c =
+    let a = c.args in
+    let fit = c.requires.emittable in
+    let core = same-core a.links.now a.clauses.now fit in
+    let e = all-written fit (emission_of c.emit_records-emitted.result) c.emit_records-emitted.ensures.written in
+    (search (rules, e, c.emit_records-emitted.ensures.same_reference), c.mark_lines-marked.ensures.marks ∙ ap (put a.marks.now 0) core)
