@@ -14,7 +14,7 @@ pub enum Side {
 
 // A node is lost, or kept; of a step that is kept one edge may be cut. A pass that walks down the sheet may store `Kept(None)` for a node before
 // its cut is known.
-#[derive(Clone, Copy)]
+#[derive(Clone, Copy, PartialEq, Eq)]
 pub enum Fate {
     Lost,
     Kept(Option<Side>),

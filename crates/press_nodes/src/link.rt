@@ -5,7 +5,7 @@ ghost use Rattle.press_nodes.specs.Tables.{link_in, links_in};
 
 use sheet::{LineNo, NodeNo};
 
-#[derive(Clone, Copy)]
+#[derive(Clone, Copy, PartialEq, Eq)]
 pub enum Link {
     Leaf(LineNo),
     Join {
