@@ -1,3 +1,4 @@
 pub mod Found
 pub mod Lent
 pub mod Tables
+pub mod Numbers
