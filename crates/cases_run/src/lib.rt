@@ -21,11 +21,11 @@
 mod press_case;
 mod replay_case;
 
-use press_spec::{Lowerable, Lowering, Plan, Recycling};
+use press_spec::{Lowerable, Plan, Recycling};
 use sheet::edition::Edition;
 use sheet::limits::TABLE_LINES;
 use sheet::{narrow, wide};
-use stdio::text;
+use std::{fmt, io};
 
 // The longest sheet and rule table of a case: a little more than the limits of either edition allow. A narrow sheet may be the longer one, a wide
 // rule table is.
@@ -36,12 +36,28 @@ const RULES: usize = wide::LINE_BYTES * (TABLE_LINES + 1);
 // The bytes before those of the sheet.
 const HEADER: usize = 16;
 
+// What is run.
+#[derive(Clone, Copy)]
+enum Job {
+    Press,
+    Replay,
+    Shown,
+}
+
+impl From<u8> for Job {
+    fn from(byte: u8) -> Job {
+        match byte {
+            0 => Job::Press,
+            2 => Job::Shown,
+            _ => Job::Replay,
+        }
+    }
+}
+
 #[derive(Clone, Copy)]
 struct Header {
-    kind: u8,
-    edition: Edition,
-    recycling: Recycling,
-    lowering: Lowering,
+    job: Job,
+    plan: Plan,
     sheet: usize,
     rules: usize,
     room: usize,
@@ -50,153 +66,126 @@ struct Header {
     rules_follows: usize,
 }
 
-fn edition_of(byte: u8) -> Edition {
-    if byte == 0 {
-        Edition::Narrow
-    } else {
-        Edition::Wide
+// A number that names nothing stands for the last choice.
+fn plan_of(edition: u8, recycling: u8, lowering: u8) -> Plan {
+    Plan {
+        edition: Edition::try_from(u32::from(edition)).unwrap_or(Edition::Wide),
+        recycling: Recycling::try_from(u32::from(recycling)).unwrap_or(Recycling::Intersection),
+        lowering: match lowering {
+            0 => None,
+            which => Some(Lowerable::try_from(u32::from(which)).unwrap_or(Lowerable::Univalents)),
+        },
     }
 }
 
-fn recycling_of(byte: u8) -> Recycling {
-    if byte == 0 {
-        Recycling::Reset
-    } else {
-        Recycling::Intersection
+impl From<&[u8; HEADER]> for Header {
+    fn from(bytes: &[u8; HEADER]) -> Header {
+        let number = |at: usize| usize::from(base::u16_at(bytes, at));
+        Header {
+            job: Job::from(bytes[0]),
+            plan: plan_of(bytes[1], bytes[2], bytes[3]),
+            sheet: number(4),
+            rules: number(6),
+            room: number(8),
+            marks: number(10),
+            sheet_follows: number(12),
+            rules_follows: number(14),
+        }
     }
 }
 
-fn lowering_of(byte: u8) -> Lowering {
-    if byte == 0 {
-        return Lowering::Nothing;
-    }
-    if byte == 1 {
-        return Lowering::Of(Lowerable::Units);
-    }
-    Lowering::Of(Lowerable::Univalents)
-}
-
-fn header_of(bytes: &[u8; HEADER]) -> Header {
-    Header {
-        kind: bytes[0],
-        edition: edition_of(bytes[1]),
-        recycling: recycling_of(bytes[2]),
-        lowering: lowering_of(bytes[3]),
-        sheet: usize::from(base::u16_at(bytes, 4)),
-        rules: usize::from(base::u16_at(bytes, 6)),
-        room: usize::from(base::u16_at(bytes, 8)),
-        marks: usize::from(base::u16_at(bytes, 10)),
-        sheet_follows: usize::from(base::u16_at(bytes, 12)),
-        rules_follows: usize::from(base::u16_at(bytes, 14)),
-    }
-}
-
-fn print_edition(rt: &impl Print, edition: Edition) {
+fn edition_name(edition: Edition) -> &'static str {
     match edition {
-        Edition::Narrow => text::print(rt, b" narrow"),
-        Edition::Wide => text::print(rt, b" wide"),
+        Edition::Narrow => "narrow",
+        Edition::Wide => "wide",
     }
 }
 
-fn print_press(rt: &impl Print, recycling: Recycling) {
+fn recycling_name(recycling: Recycling) -> &'static str {
     match recycling {
-        Recycling::Reset => text::print(rt, b" press reset"),
-        Recycling::Intersection => text::print(rt, b" press intersection"),
+        Recycling::Reset => "reset",
+        Recycling::Intersection => "intersection",
     }
 }
 
-fn print_lowerable(rt: &impl Print, which: Lowerable) {
-    match which {
-        Lowerable::Units => text::print(rt, b" units"),
-        Lowerable::Univalents => text::print(rt, b" univalents"),
-    }
-}
-
-fn print_lowering(rt: &impl Print, lowering: Lowering) {
+fn lowering_name(lowering: Option<Lowerable>) -> &'static str {
     match lowering {
-        Lowering::Nothing => text::print(rt, b" nothing"),
-        Lowering::Of(which) => print_lowerable(rt, which),
+        None => "nothing",
+        Some(Lowerable::Units) => "units",
+        Some(Lowerable::Univalents) => "univalents",
     }
 }
 
-fn print_header(rt: &impl Print, number: u64, head: Header) {
-    let edition = head.edition;
-    text::print_number(rt, b"case ", number);
-    print_edition(rt, edition);
-    if head.kind == 0 {
-        let recycling = head.recycling;
-        let lowering = head.lowering;
-        print_press(rt, recycling);
-        print_lowering(rt, lowering);
-    } else {
-        text::print(rt, b" replay");
-    }
-    text::print_number(rt, b" ", head.sheet as u64);
-    text::print_number(rt, b" ", head.rules as u64);
-    text::print_number(rt, b" ", head.room as u64);
-    text::print_number(rt, b" ", head.marks as u64);
-    text::print(rt, b"\n");
-}
-
-fn run_inputs(rt: &impl Print, head: Header, sheet: &[u8], rules: &[u8]) {
-    let edition = head.edition;
-    if head.kind == 0 {
-        let recycling = head.recycling;
-        let lowering = head.lowering;
-        let plan = Plan {
-            edition,
-            recycling,
-            lowering,
-        };
-        press_case::run(rt, plan, sheet, rules, head.room, head.marks);
-        return;
-    }
-    replay_case::run(rt, edition, sheet, rules, head.room);
-    if head.kind == 2 {
-        replay_case::show(rt, edition, sheet, rules, head.room);
+impl fmt::Display for Header {
+    fn fmt<W: fmt::Write>(&self, f: &mut fmt::Formatter<W>) -> fmt::Result {
+        let Header {
+            job,
+            plan,
+            sheet,
+            rules,
+            room,
+            marks,
+            ..
+        } = *self;
+        let edition = edition_name(plan.edition);
+        let recycling = recycling_name(plan.recycling);
+        let lowering = lowering_name(plan.lowering);
+        match job {
+            Job::Press => write!(f, "{edition} press {recycling} {lowering}")?,
+            Job::Replay | Job::Shown => write!(f, "{edition} replay")?,
+        }
+        write!(f, " {sheet} {rules} {room} {marks}")
     }
 }
 
-// The sheet and the rule table are read into the first bytes of what is lent, which is zero.
+fn print_case(
+    rt: &impl Print,
+    number: u64,
+    head: Header,
+    sheet: &[u8],
+    rules: &[u8],
+) -> io::Result<()> {
+    println!(rt; "case {number} {head}")?;
+    let edition = head.plan.edition;
+    match head.job {
+        Job::Press => press_case::run(rt, head.plan, sheet, rules, head.room, head.marks),
+        Job::Replay => replay_case::run(rt, edition, sheet, rules, head.room),
+        Job::Shown => {
+            replay_case::run(rt, edition, sheet, rules, head.room)?;
+            replay_case::show(rt, edition, sheet, rules, head.room)
+        }
+    }
+}
+
+// The sheet and the rule table are read into the first bytes of what is lent, which is zero. A case that cannot be printed is a case too.
 fn run_in(
     rt: &(impl Input + Print),
     number: u64,
     head: Header,
     sheet: &mut [u8],
     rules: &mut [u8],
-) -> bool {
-    if !stdio::is_read(rt, sheet, head.sheet_follows) {
-        return false;
-    }
-    if !stdio::is_read(rt, rules, head.rules_follows) {
-        return false;
-    }
-    print_header(rt, number, head);
-    let s = stdio::least(head.sheet, sheet.len());
-    let r = stdio::least(head.rules, rules.len());
-    run_inputs(rt, head, &sheet[..s], &rules[..r]);
-    true
+) -> io::Result<()> {
+    stdio::read_exact(rt, sheet, head.sheet_follows)?;
+    stdio::read_exact(rt, rules, head.rules_follows)?;
+    let s = head.sheet.min(sheet.len());
+    let r = head.rules.min(rules.len());
+    let _ = print_case(rt, number, head, &sheet[..s], &rules[..r]);
+    Ok(())
 }
 
-fn run_case(rt: &(impl Input + Print), number: u64, head: Header) -> bool {
+fn run_next(rt: &(impl Input + Print), number: u64) -> io::Result<()> {
+    let mut bytes = [0u8; HEADER];
+    stdio::read_exact(rt, &mut bytes, HEADER)?;
     let mut sheet = [0u8; SHEET];
     let mut rules = [0u8; RULES];
-    run_in(rt, number, head, &mut sheet, &mut rules)
-}
-
-// Whether there was a case.
-fn run_next(rt: &(impl Input + Print), number: u64) -> bool {
-    let mut bytes = [0u8; HEADER];
-    if !stdio::is_read(rt, &mut bytes, HEADER) {
-        return false;
-    }
-    run_case(rt, number, header_of(&bytes))
+    run_in(rt, number, Header::from(&bytes), &mut sheet, &mut rules)
 }
 
 // Every case of standard input. A proved loop has to end, and nothing says that the input does: it counts to a number that no run reaches.
 pub fn run(rt: &(impl Input + Print)) {
-    let mut number = 0;
-    while number < u64::MAX && run_next(rt, number) {
-        number += 1;
+    for number in 0..u64::MAX {
+        if run_next(rt, number).is_err() {
+            return;
+        }
     }
 }

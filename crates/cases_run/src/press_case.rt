@@ -1,12 +1,14 @@
 // A case of the press: its answer; where it is accepted, the output and the marks; and whether the bytes beyond them, or where it is refused
 // all of them, are as they were.
-use press::PressAnswer;
+use clause::Clause;
 use press_spec::{Order, Plan};
 use press_write::Pressed;
+use sheet::Refusal;
 use sheet::edition::Edition;
 use sheet::limits::TABLE_LINES;
 use sheet::narrow::{PRESSED_RECORDS, RECORD_BYTES};
-use stdio::text;
+use std::io;
+use stdio::text::{self, SetIn};
 
 // The most room and marks of a case: a little more than a press needs. A narrow one needs the most.
 const ROOM: usize = RECORD_BYTES * PRESSED_RECORDS + 60;
@@ -17,41 +19,40 @@ const MARKS: usize = TABLE_LINES + 60;
 const OLD: u8 = 0xA5;
 
 fn is_old(bytes: &[u8]) -> bool {
-    let mut i = 0;
-    while i < bytes.len() {
-        if bytes[i] != OLD {
-            return false;
-        }
-        i += 1;
-    }
-    true
+    bytes.iter().all(|b| *b == OLD)
 }
 
 // Ends the line before it.
-fn print_beyond(rt: &impl Print, out: &[u8], marks: &[u8]) {
+fn print_beyond(rt: &impl Print, out: &[u8], marks: &[u8]) -> io::Result<()> {
     if is_old(out) && is_old(marks) {
-        text::print(rt, b"\nuntouched\n");
+        println!(rt; "\nuntouched")
     } else {
-        text::print(rt, b"\ntouched\n");
+        println!(rt; "\ntouched")
     }
 }
 
-fn print_order(rt: &impl Print, order: Order) {
+fn order_name(order: Order) -> &'static str {
     match order {
-        Order::BottomUp => text::print(rt, b" order bottom-up"),
-        Order::TopDown => text::print(rt, b" order top-down"),
+        Order::BottomUp => "bottom-up",
+        Order::TopDown => "top-down",
     }
 }
 
-fn print_pressed(rt: &impl Print, edition: Edition, p: Pressed) {
-    text::print_ok(rt, edition, p.conclusion);
-    text::print_count(rt, b" records ", p.records);
-    text::print_count(rt, b" nodes ", p.nodes);
-    text::print_count(rt, b" steps ", p.steps);
-    text::print_count(rt, b" peak ", p.peak);
-    text::print_count(rt, b" marked ", p.marked);
-    let order = p.order;
-    print_order(rt, order);
+fn print_pressed(rt: &impl Print, edition: Edition, pressed: Pressed) -> io::Result<()> {
+    let Pressed {
+        records,
+        nodes,
+        steps,
+        peak,
+        marked,
+        ..
+    } = pressed;
+    let Clause { positive, negative } = pressed.conclusion;
+    let positive = SetIn(edition, positive);
+    let negative = SetIn(edition, negative);
+    let order = order_name(pressed.order);
+    print!(rt; "= ok {positive} {negative} records {records} nodes {nodes} steps {steps}")?;
+    print!(rt; " peak {peak} marked {marked} order {order}")
 }
 
 fn print_memory(
@@ -61,56 +62,38 @@ fn print_memory(
     lines: usize,
     out: &[u8],
     marks: &[u8],
-) {
+) -> io::Result<()> {
     let bytes = edition.record_bytes() * usize::from(records);
-    let n = stdio::least(bytes, out.len());
-    let m = stdio::least(lines, marks.len());
-    text::print(rt, b"\nout ");
-    text::print_bytes(rt, &out[..n]);
-    text::print(rt, b"\nmarks ");
-    text::print_bytes(rt, &marks[..m]);
-    print_beyond(rt, &out[n..], &marks[m..]);
+    let n = bytes.min(out.len());
+    let m = lines.min(marks.len());
+    print!(rt; "\nout ")?;
+    text::print_bytes(rt, &out[..n])?;
+    print!(rt; "\nmarks ")?;
+    text::print_bytes(rt, &marks[..m])?;
+    print_beyond(rt, &out[n..], &marks[m..])
 }
 
 fn print_outcome(
     rt: &impl Print,
     edition: Edition,
-    answer: PressAnswer,
+    answer: Result<Pressed, Refusal>,
     lines: usize,
     out: &[u8],
     marks: &[u8],
-) {
+) -> io::Result<()> {
     match answer {
-        PressAnswer::Accepted(p) => {
-            print_pressed(rt, edition, p);
-            print_memory(rt, edition, p.records, lines, out, marks);
+        Ok(pressed) => {
+            print_pressed(rt, edition, pressed)?;
+            print_memory(rt, edition, pressed.records, lines, out, marks)
         }
-        PressAnswer::Refused(why, k) => {
-            text::print_refused(rt, b"= refused ", why, k);
-            print_beyond(rt, out, marks);
+        Err(Refusal { why, at }) => {
+            print!(rt; "= refused {} {}", why as u32, at.0)?;
+            print_beyond(rt, out, marks)
         }
     }
 }
 
-// Of what is lent, the first bytes are the room and the marks.
-fn run_in(
-    rt: &impl Print,
-    plan: Plan,
-    sheet: &[u8],
-    rules: &[u8],
-    room: usize,
-    marks: usize,
-    out: &mut [u8],
-    core: &mut [u8],
-) {
-    let n = stdio::least(room, out.len());
-    let m = stdio::least(marks, core.len());
-    let answer = press::press(plan, sheet, rules, &mut out[..n], &mut core[..m]);
-    let edition = plan.edition;
-    let lines = edition.lines_in(rules.len());
-    print_outcome(rt, edition, answer, lines, out, core);
-}
-
+// Of the memory of its own, the first bytes are the room and the marks that are lent to the press.
 pub(crate) fn run(
     rt: &impl Print,
     plan: Plan,
@@ -118,8 +101,12 @@ pub(crate) fn run(
     rules: &[u8],
     room: usize,
     marks: usize,
-) {
+) -> io::Result<()> {
     let mut out = [OLD; ROOM];
     let mut core = [OLD; MARKS];
-    run_in(rt, plan, sheet, rules, room, marks, &mut out, &mut core);
+    let n = room.min(ROOM);
+    let m = marks.min(MARKS);
+    let answer = press::press(plan, sheet, rules, &mut out[..n], &mut core[..m]);
+    let lines = plan.edition.lines_in(rules.len());
+    print_outcome(rt, plan.edition, answer, lines, &out, &core)
 }

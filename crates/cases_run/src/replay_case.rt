@@ -1,79 +1,66 @@
 // A case of the replay: its answer; and for one that is shown, what stands after each record.
-use replay_answer::{ReplayAnswer, Replayed};
-use replay_slots::{Slot, StepAnswer};
+use clause::Clause;
+use replay_answer::Replayed;
+use replay_slots::{Slot, Untaken};
 use sheet::edition::Edition;
-use sheet::{SlotNo, Verdict};
-use stdio::text;
+use sheet::{Refusal, SlotNo};
+use std::io;
+use stdio::text::SetIn;
 use tally::Tally;
 
-fn print_replayed(rt: &impl Print, edition: Edition, r: Replayed) {
-    text::print_ok(rt, edition, r.conclusion);
-    text::print_count(rt, b" nodes ", r.nodes);
-    text::print_count(rt, b" steps ", r.steps);
-    text::print_count(rt, b" peak ", r.peak);
+fn print_replayed(rt: &impl Print, edition: Edition, replayed: Replayed) -> io::Result<()> {
+    let Replayed {
+        conclusion,
+        nodes,
+        steps,
+        peak,
+    } = replayed;
+    let Clause { positive, negative } = conclusion;
+    let positive = SetIn(edition, positive);
+    let negative = SetIn(edition, negative);
+    println!(rt; "= ok {positive} {negative} nodes {nodes} steps {steps} peak {peak}")
 }
 
-pub(crate) fn run(rt: &impl Print, edition: Edition, sheet: &[u8], rules: &[u8], slots: usize) {
-    let answer = replay::own::replay_in(edition, sheet, rules, slots);
-    match answer {
-        ReplayAnswer::Accepted(r) => print_replayed(rt, edition, r),
-        ReplayAnswer::Refused(why, k) => text::print_refused(rt, b"= refused ", why, k),
-    }
-    text::print(rt, b"\n");
-}
-
-// "<node>:<positive>:<negative>", or "-" for a free slot.
-fn print_slot(rt: &impl Print, edition: Edition, s: Slot) {
-    if s.used == 0 {
-        text::print(rt, b" -");
-        return;
-    }
-    let clause = s.clause;
-    text::print_number(rt, b" ", s.node as u64);
-    text::print_set(rt, b":", edition, clause.positive);
-    text::print_set(rt, b":", edition, clause.negative);
-}
-
-fn print_slots(
+pub(crate) fn run(
     rt: &impl Print,
     edition: Edition,
     sheet: &[u8],
     rules: &[u8],
     slots: usize,
-    records: usize,
-) {
-    let mut i = 0;
-    while i < slots {
-        let seen = replay_look::look_after(edition, sheet, rules, slots, records, SlotNo(i));
-        print_slot(rt, edition, seen.slot);
-        i += 1;
+) -> io::Result<()> {
+    match replay::own::replay_in(edition, sheet, rules, slots) {
+        Ok(replayed) => print_replayed(rt, edition, replayed),
+        Err(Refusal { why, at }) => println!(rt; "= refused {} {}", why as u32, at.0),
     }
 }
 
-fn print_tally(rt: &impl Print, t: Tally) {
-    text::print_count(rt, b" tally ", t.next);
-    text::print_count(rt, b" ", t.held);
-    text::print_count(rt, b" ", t.peak);
-    text::print_count(rt, b" ", t.steps);
-    text::print(rt, b" slots");
+// "<node>:<positive>:<negative>", or "-" for a free slot.
+fn print_slot(rt: &impl Print, edition: Edition, slot: Slot) -> io::Result<()> {
+    let Slot { used, node, clause } = slot;
+    if used == 0 {
+        return print!(rt; " -");
+    }
+    let positive = SetIn(edition, clause.positive);
+    let negative = SetIn(edition, clause.negative);
+    print!(rt; " {node}:{positive}:{negative}")
 }
 
-// Whether the record was taken.
-fn print_answer(rt: &impl Print, a: StepAnswer) -> bool {
-    match a {
-        StepAnswer::Taken => {
-            text::print(rt, b"taken");
-            true
-        }
-        StepAnswer::Refused(why, k) => {
-            text::print_refused(rt, b"refused ", why, k);
-            false
-        }
-        StepAnswer::Unfit => {
-            text::print(rt, b"unfit");
-            false
-        }
+fn print_answer(rt: &impl Print, answer: Result<(), Untaken>) -> io::Result<()> {
+    match answer {
+        Ok(()) => print!(rt; "taken"),
+        Err(Untaken::Refused(Refusal { why, at })) => print!(rt; "refused {} {}", why as u32, at.0),
+        Err(Untaken::Unfit) => print!(rt; "unfit"),
     }
+}
+
+fn print_tally(rt: &impl Print, tally: Tally) -> io::Result<()> {
+    let Tally {
+        next,
+        held,
+        peak,
+        steps,
+    } = tally;
+    print!(rt; " tally {next} {held} {peak} {steps} slots")
 }
 
 // What stands after so many records, of which the last is shown. Whether it was taken.
@@ -84,29 +71,33 @@ fn print_record(
     rules: &[u8],
     slots: usize,
     records: usize,
-) -> bool {
+) -> io::Result<bool> {
     let seen = replay_look::look_after(edition, sheet, rules, slots, records, SlotNo(0));
-    let answer = seen.answer;
-    let taken = print_answer(rt, answer);
-    print_tally(rt, seen.tally);
-    print_slots(rt, edition, sheet, rules, slots, records);
-    text::print(rt, b"\n");
-    taken
+    print_answer(rt, seen.answer)?;
+    print_tally(rt, seen.tally)?;
+    for i in 0..slots {
+        let seen = replay_look::look_after(edition, sheet, rules, slots, records, SlotNo(i));
+        print_slot(rt, edition, seen.slot)?;
+    }
+    println!(rt)?;
+    Ok(seen.answer.is_ok())
 }
 
 // Record after record, up to one that is refused; none where the lengths are.
-pub(crate) fn show(rt: &impl Print, edition: Edition, sheet: &[u8], rules: &[u8], slots: usize) {
+pub(crate) fn show(
+    rt: &impl Print,
+    edition: Edition,
+    sheet: &[u8],
+    rules: &[u8],
+    slots: usize,
+) -> io::Result<()> {
     let most = edition.replay_records();
-    let verdict = sheet_checks::check_lengths(edition, most, sheet.len(), rules.len());
-    let Verdict::Fine = verdict else {
-        return;
-    };
-    let whole = edition.records_in(sheet.len());
-    let mut k = 0;
-    while k < whole {
-        k += 1;
-        if !print_record(rt, edition, sheet, rules, slots, k) {
-            return;
+    if sheet_checks::check_lengths(edition, most, sheet.len(), rules.len()).is_ok() {
+        for k in 0..edition.records_in(sheet.len()) {
+            if !print_record(rt, edition, sheet, rules, slots, k + 1)? {
+                break;
+            }
         }
     }
+    Ok(())
 }

@@ -2,7 +2,6 @@
 // line." All in the folder that it runs in, and of the narrow edition.
 #![tactic(auto)]
 
-use press::PressAnswer;
 use sheet::limits::TABLE_LINES;
 use sheet::narrow::{LINE_BYTES, PRESS_RECORDS, PRESSED_RECORDS, RECORD_BYTES};
 use std::fs::Files;
@@ -59,13 +58,13 @@ fn answer<R: Files + Print>(
         &mut marks,
     );
     match answer {
-        PressAnswer::Accepted(pressed) => {
+        Ok(pressed) => {
             let end = program_whole::record_bytes(pressed);
             match write_pressed(rt, &out[..end]) {
                 Ok(()) => say::accepted(rt, pressed),
                 Err(_) => println!(rt; "unwritable pressed.bin"),
             }
         }
-        PressAnswer::Refused(why, k) => say::refused(rt, why, k),
+        Err(refusal) => say::refused(rt, refusal),
     }
 }
