@@ -22,73 +22,75 @@ use press_reach::{edges, fit, literal};
 use press_spec::Recycling;
 use sheet::NodeNo;
 
-fn hand(how: Recycling, uses: &[u16], n: NodeNo, s: Clause, fates: &mut [Fate], sets: &mut [Clause])
-    requires { (length fates.old ≡ length uses.now) × (length sets.old ≡ length uses.now) × (n.0 < length uses.now) }
-    ensures reaches { reaches_in fates.new sets.new ≡ hand (fit_of how (count_in uses.now)) n.0 (literals_of s) (reaches_in fates.old sets.old) }
-    ensures fates { fates.new ≡ set fates.old n.0 (Kept None) }
-{
-    let i = n.index();
-    let before = press_reach::reach_at(fates, sets, n);
-    let next = fit::fitted(how, uses[i], before, s);
-    press_reach::put_reach(fates, sets, n, next);
+// What the turns only read: the recycling that is chosen, and the link and the uses of each node.
+#[derive(Clone, Copy)]
+struct Turns<'a> {
+    how: Recycling,
+    links: &'a [Link],
+    uses: &'a [u16],
 }
 
-// "The left edge is cut and the right parent gets S; .. the right edge is cut and the left parent gets S; else left gets S with +p, right
-// gets S with -p."
-#[tactic(auto, unfolding(press_nodes::specs::Fates::cut_in, press_spec::specs::Recycle::hand_on, press_reach::specs::Literals::literal_in))]
-fn hand_on(
-    how: Recycling,
-    uses: &[u16],
-    cut: Option<Side>,
-    p: u8,
-    l: NodeNo,
-    r: NodeNo,
-    s: Clause,
-    fates: &mut [Fate],
-    sets: &mut [Clause],
-)
-    requires fates_len { (length fates.old ≡ length uses.now) × (length sets.old ≡ length uses.now) }
-    requires p_lt_width { (p < width) × (l.0 < length uses.now) × (r.0 < length uses.now) }
-    ensures reaches { reaches_in fates.new sets.new ≡ hand_on (fit_of how (count_in uses.now)) (cut_in cut) p l.0 r.0 (literals_of s) (reaches_in fates.old sets.old) }
-    ensures fates { (m : ℕ) → l.0 < m → r.0 < m → get_or fates.new m Lost ≡ get_or fates.old m Lost }
-{
-    match cut {
-        Some(Side::Left) => hand(how, uses, r, s, fates, sets),
-        Some(Side::Right) => hand(how, uses, l, s, fates, sets),
-        None => {
-            let plus = Literal::Plus(p);
-            let minus = Literal::Minus(p);
-            hand(how, uses, l, literal::adding(plus, s), fates, sets);
-            hand(how, uses, r, literal::adding(minus, s), fates, sets);
+impl Turns<'_> {
+    fn hand(&self, n: NodeNo, s: Clause, fates: &mut [Fate], sets: &mut [Clause])
+        requires { (length fates.old ≡ length self.now.uses.now) × (length sets.old ≡ length self.now.uses.now) × (n.0 < length self.now.uses.now) }
+        ensures reaches { reaches_in fates.new sets.new ≡ hand (fit_of self.now.how (count_in self.now.uses.now)) n.0 (literals_of s) (reaches_in fates.old sets.old) }
+        ensures fates { fates.new ≡ set fates.old n.0 (Kept None) }
+    {
+        let i = n.index();
+        let before = press_reach::reach_at(fates, sets, n);
+        let next = fit::fitted(self.how, self.uses[i], before, s);
+        press_reach::put_reach(fates, sets, n, next);
+    }
+
+    // "The left edge is cut and the right parent gets S; .. the right edge is cut and the left parent gets S; else left gets S with +p, right
+    // gets S with -p."
+    #[tactic(auto, unfolding(press_nodes::specs::Fates::cut_in, press_spec::specs::Recycle::hand_on, press_reach::specs::Literals::literal_in))]
+    fn hand_on(
+        &self,
+        cut: Option<Side>,
+        p: u8,
+        l: NodeNo,
+        r: NodeNo,
+        s: Clause,
+        fates: &mut [Fate],
+        sets: &mut [Clause],
+    )
+        requires fates_len { (length fates.old ≡ length self.now.uses.now) × (length sets.old ≡ length self.now.uses.now) }
+        requires p_lt_width { (p < width) × (l.0 < length self.now.uses.now) × (r.0 < length self.now.uses.now) }
+        ensures reaches { reaches_in fates.new sets.new ≡ hand_on (fit_of self.now.how (count_in self.now.uses.now)) (cut_in cut) p l.0 r.0 (literals_of s) (reaches_in fates.old sets.old) }
+        ensures fates { (m : ℕ) → l.0 < m → r.0 < m → get_or fates.new m Lost ≡ get_or fates.old m Lost }
+    {
+        match cut {
+            Some(Side::Left) => self.hand(r, s, fates, sets),
+            Some(Side::Right) => self.hand(l, s, fates, sets),
+            None => {
+                let plus = Literal::Plus(p);
+                let minus = Literal::Minus(p);
+                self.hand(l, literal::adding(plus, s), fates, sets);
+                self.hand(r, literal::adding(minus, s), fates, sets);
+            }
         }
     }
-}
 
-// The turn at node n, whose set is final: its fate is stored, and its parents are handed theirs.
-fn recycle_turn(
-    how: Recycling,
-    links: &[Link],
-    uses: &[u16],
-    n: NodeNo,
-    fates: &mut [Fate],
-    sets: &mut [Clause],
-)
-    requires links { Links links.now }
-    requires uses_len { (length uses.now ≡ length links.now) × (length fates.old ≡ length links.now) × (length sets.old ≡ length links.now) × (n.0 < length links.now) }
-    requires fated_2 { Fated (links_in links.now) fates.old sets.old (suc n.0) }
-    ensures reaches { reaches_in fates.new sets.new ≡ recycle_turn (fit_of how (count_in uses.now)) (links_in links.now) n.0 (reaches_in fates.old sets.old) }
-    ensures fated { Fated (links_in links.now) fates.new sets.new n.0 }
-{
-    let Some(s) = press_reach::reach_at(fates, sets, n) else {
-        return;
-    };
-    let Link::Join { pivot, left, right } = link::link_at(links, n) else {
-        fate::put_fate(fates, n, None);
-        return;
-    };
-    let cut = edges::cut_of(pivot, s);
-    fate::put_fate(fates, n, cut);
-    hand_on(how, uses, cut, pivot, left, right, s, fates, sets);
+    // The turn at node n, whose set is final: its fate is stored, and its parents are handed theirs.
+    fn turn(&self, n: NodeNo, fates: &mut [Fate], sets: &mut [Clause])
+        requires links { Links self.now.links.now }
+        requires uses_len { (length self.now.uses.now ≡ length self.now.links.now) × (length fates.old ≡ length self.now.links.now) × (length sets.old ≡ length self.now.links.now) × (n.0 < length self.now.links.now) }
+        requires fated_2 { Fated (links_in self.now.links.now) fates.old sets.old (suc n.0) }
+        ensures reaches { reaches_in fates.new sets.new ≡ recycle_turn (fit_of self.now.how (count_in self.now.uses.now)) (links_in self.now.links.now) n.0 (reaches_in fates.old sets.old) }
+        ensures fated { Fated (links_in self.now.links.now) fates.new sets.new n.0 }
+    {
+        let Some(s) = press_reach::reach_at(fates, sets, n) else {
+            return;
+        };
+        let Link::Join { pivot, left, right } = link::link_at(self.links, n) else {
+            fate::put_fate(fates, n, None);
+            return;
+        };
+        let cut = edges::cut_of(pivot, s);
+        fate::put_fate(fates, n, cut);
+        self.hand_on(cut, pivot, left, right, s, fates, sets);
+    }
 }
 
 // What becomes of each node by the recycling `how`, where `own` is the sink's clause. The sets S stand in `sets`, and what it held before never matters.
@@ -106,7 +108,8 @@ pub fn recycle(
 {
     let n = links.len() as u16;
     press_reach::reach_only(fates, sets, NodeNo(n - 1), own);
+    let turns = Turns { how, links, uses };
     for i in (0..n).rev() {
-        recycle_turn(how, links, uses, NodeNo(i), fates, sets);
+        turns.turn(NodeNo(i), fates, sets);
     }
 }

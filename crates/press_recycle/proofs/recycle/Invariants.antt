@@ -12,6 +12,6 @@ abbrev pub invariant-loop-i : goal.invariant-loop-i
 invariant-loop-i l = (l.i ≤ length l.links)
     × (length l.fates ≡ length l.links)
     × (length l.sets ≡ length l.links)
-    × (fall (recycle_turn (fit_of l.how (count_in l.uses)) (links_in l.links)) l.i (reaches_in l.fates l.sets)
-    ≡ fall (recycle_turn (fit_of l.how (count_in l.uses)) (links_in l.links)) (length l.links) (reaches_in l.initial.fates l.initial.sets))
+    × (fall (recycle_turn (fit_of l.fn.how (count_in l.uses)) (links_in l.links)) l.i (reaches_in l.fates l.sets)
+    ≡ fall (recycle_turn (fit_of l.fn.how (count_in l.uses)) (links_in l.links)) (length l.links) (reaches_in l.initial.fates l.initial.sets))
     × Fated (links_in l.links) l.fates l.sets l.i

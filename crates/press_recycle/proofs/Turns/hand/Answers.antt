@@ -1,5 +1,5 @@
 use Rattle.press_recycle.proofs.Recycles.{hand-fitted}
-use Rattle.press_recycle.proofs.hand.Goals as goal
+use Rattle.press_recycle.proofs.Turns.hand.Goals as goal
 
 pub returns-clause-reaches : goal.returns-clause-reaches
 returns-clause-reaches c = search hand-fitted

@@ -1,7 +1,7 @@
 use native.Mathlib.Omega.{arith}
 use Rattle.press_nodes.proofs.Found.{found-leaf, found-join, found-sound}
 use Rattle.press_recycle.proofs.Recycles.{turn-past, turn-leaf, turn-join}
-use Rattle.press_recycle.proofs.recycle_turn.Goals as goal
+use Rattle.press_recycle.proofs.Turns.turn.Goals as goal
 
 pub returns-in_default : goal.returns-in_default
 returns-in_default c =
