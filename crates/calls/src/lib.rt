@@ -75,7 +75,7 @@ fn write<W: Write>(file: &mut W, bytes: &[u8]) -> io::Result<usize>
     Err(Error::from(ErrorKind::Interrupted))
 }
 
-// Writes all of the bytes.
+// Writes all of the bytes. The turns are ours and not those of std's `write_all`: a write that takes nothing ends them, which is proved here.
 pub fn write_all<W: Write>(file: &mut W, bytes: &[u8]) -> io::Result<()>
     ensures { OnOk result (Appends (W.contents file.old) (W.contents file.new) bytes.now) }
 {

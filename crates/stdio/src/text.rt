@@ -20,7 +20,7 @@ impl fmt::Display for SetIn {
     }
 }
 
-// Bytes are printed so many at a time, each as two digits.
+// Bytes are printed so many at a time, each as two digits. A part is put together in fixed memory, and is one write.
 const PART: usize = 2000;
 
 // The digit of a number below 16.
