@@ -18,14 +18,14 @@ module _ (edition : Edition) (rules bytes : List ℕ) (ys : List Slot) (h : Tall
   before = state (tally_of h) (row_of ys)
 
   -- what is looked for, and what is found, for the left parent, the right one and a new node
-  pub says_so : (w : RecordReading) → w ≡ reading edition true bytes → (l r v : Sought) → l ≡ left_sought w → r ≡ right_sought w → v ≡ room_sought w
-      → (left right vacant : RowPlace) → left ≡ look l (row_of ys) → right ≡ look r (row_of ys) → vacant ≡ look v (row_of ys)
-      → (d : Decided) → d ≡ decided edition rules (tally_of h) w left right vacant → comes_to d (row_of ys) ≡ by_turn before (turn edition rules bytes before)
+  pub says_so : {w : RecordReading} → w ≡ reading edition true bytes → {l r v : Sought} → l ≡ left_sought w → r ≡ right_sought w → v ≡ room_sought w
+      → {left right vacant : RowPlace} → left ≡ look l (row_of ys) → right ≡ look r (row_of ys) → vacant ≡ look v (row_of ys)
+      → {d : Decided} → d ≡ decided edition rules (tally_of h) w left right vacant → comes_to d (row_of ys) ≡ by_turn before (turn edition rules bytes before)
   unfolding turn
-  says_so w read l r v p q o left right vacant e-left e-right e-vacant d e =
-      ap (λ (x : Decided). comes_to x (row_of ys)) (e ∙ (λ i. decided edition rules (tally_of h) w (found l p e-left i) (found r q e-right i) (found v o e-vacant i)))
+  says_so {w = w} read p q o e-left e-right e-vacant e =
+      ap (λ (x : Decided). comes_to x (row_of ys)) (e ∙ (λ i. decided edition rules (tally_of h) w (found p e-left i) (found q e-right i) (found o e-vacant i)))
       ∙ decides edition rules before w
       ∙ (λ i. by_turn before (by_reading edition rules before (read i)))
     where
-      found : (x : Sought) {y : Sought} → x ≡ y → {place : RowPlace} → place ≡ look x (row_of ys) → place ≡ look y (row_of ys)
-      found x e f = f ∙ ap (λ (z : Sought). look z (row_of ys)) e
+      found : {x y : Sought} → x ≡ y → {place : RowPlace} → place ≡ look x (row_of ys) → place ≡ look y (row_of ys)
+      found e f = f ∙ ap (λ (z : Sought). look z (row_of ys)) e

@@ -21,51 +21,9 @@ unfolding put
 returns-in_err-taken c =
     let p = err_from_is_err_and c.from_residual.result c.from_residual.ensures.1 in
     rw (p.1, p.2)
-    (says_so
-    c.args.edition
-    c.args.rules.now
-    c.args.bytes.now
-    c.args.slots.now
-    c.args.t.now
-    _
-    c.read-reading.ensures
-    _
-    _
-    _
-    c.left_sought.ensures
-    c.right_sought.ensures
-    c.room_sought.ensures
-    _
-    _
-    _
-    c.find-left.ensures
-    c.find-right.ensures
-    c.find-vacant.ensures
-    _
-    c.in_err-taken.ensures)
+    (says_so _ _ _ _ _ c.read-reading.ensures c.left_sought.ensures c.right_sought.ensures c.room_sought.ensures c.find-left.ensures c.find-right.ensures c.find-vacant.ensures c.in_err-taken.ensures)
 
 pub returns : goal.returns
 returns c =
     ap (λ (row : List Slot). judged (Ok tt) (state (tally_of c.in_ok-taken.taken.tally) row)) c.put.ensures
-    ∙ says_so
-    c.args.edition
-    c.args.rules.now
-    c.args.bytes.now
-    c.args.slots.now
-    c.args.t.now
-    _
-    c.read-reading.ensures
-    _
-    _
-    _
-    c.left_sought.ensures
-    c.right_sought.ensures
-    c.room_sought.ensures
-    _
-    _
-    _
-    c.find-left.ensures
-    c.find-right.ensures
-    c.find-vacant.ensures
-    _
-    c.in_ok-taken.ensures
+    ∙ says_so _ _ _ _ _ c.read-reading.ensures c.left_sought.ensures c.right_sought.ensures c.room_sought.ensures c.find-left.ensures c.find-right.ensures c.find-vacant.ensures c.in_ok-taken.ensures
