@@ -1,13 +1,12 @@
 -- The count of uses, node by node from the last: what each turn adds, and bounds.
 use Prim.Native.Nat.{ℕ, zero, suc, ◌+◌, ◌-◌, ◌*◌, ◌≤◌, ◌<◌}
-use mathlib.Core.Path.{◌≡◌, refl, sym, ◌∙◌}
+use mathlib.Core.Path.{◌≡◌, sym, ◌∙◌}
 use mathlib.Core.Bool.{Bool, true, false, cond}
 use mathlib.Core.List.{List, [], ◌∷◌}
 use native.Mathlib.Omega.{arith}
-use lib.Dec.{eqb, eqb-zero-suc, eqb-suc-zero, eqb-suc-suc}
-use lib.ListN.{length, get_or, set, replicate, length-set}
+use lib.Dec.{eqb}
+use lib.ListN.{length, get_or, replicate}
 use lib.Seq.{drop-length}
-use borrow.Author.Tests.{eq-eqb, ne_eqb}
 use Rattle.base.proofs.Lists.{get_d-blank, cond_both}
 use Rattle.sheet.specs.Editions.{capacity}
 use Rattle.press_spec.specs.Links.{Link, leaf, join, link_at}
@@ -17,49 +16,12 @@ use Rattle.press_spec.specs.Trim.{trimmed, naming, uses_in, uses}
 use Rattle.press_nodes.proofs.Tables.{links-length}
 use Rattle.press_spec.proofs.Trimmed.{uses_after, uses-all}
 
--- ---- one more
+-- ---- one turn
 
-added : (t : List ℕ) (n m : ℕ) → n < length t → get_or (set t n (get_or t n 0 + 1)) m 0 ≡ get_or t m 0 + naming m n
-unfolding naming
-added [] n m h = absurd (omega arith)
-added (x ∷ t) zero zero h = refl
-added (x ∷ t) zero (suc m) h = rw (eqb-suc-zero m) (omega arith)
-added (x ∷ t) (suc n) zero h = rw (eqb-zero-suc n) (omega arith)
-added (x ∷ t) (suc n) (suc m) h = rw (eqb-suc-suc m n) (added t n m (omega arith))
-
-module _ (t : List ℕ) (l : ℕ) where
-  abbrev more : List ℕ
-  more = set t l (get_or t l 0 + 1)
-
-  pub both-added : (r i j m : ℕ) → l ≡ i → r ≡ j → l < length t → r < length t
-      → get_or (set more r (get_or more r 0 + 1)) m 0 ≡ get_or t m 0 + (naming m i + naming m j)
-  both-added r i j m p q h g =
-      rw (← p, ← q) (omega (arith, added t l m h, added more r m (rw (length-set t l (get_or t l 0 + 1)) g)))
-
--- ---- one turn, by what the code finds at the node
-
+-- the places in node n that name m, if n is kept
 module _ (s : List Link) (kept : List ℕ) (n : ℕ) where
-  -- the places in node n that name m, if n is kept
   abbrev pub uses_here : ℕ → ℕ
   uses_here m = uses (trimmed (link_at s n ∷ []) (get_or kept n 0 ∷ [])) m
-
-  module _ (i : ℕ) (same : i ≡ n) where
-    here-kept : (m : ℕ) → (get_or kept i 0 ≡ 0 → ⊥) → uses_here m ≡ uses_in m (link_at s n)
-    unfolding uses trimmed
-    here-kept m h = let z : get_or kept n 0 ≡ 0 → ⊥ = rw (← same) h in rw (ne_eqb (get_or kept n 0) 0 z) (omega arith)
-
-    pub use-past : (t : List ℕ) (m : ℕ) → get_or kept i 0 ≡ 0 → get_or t m 0 ≡ get_or t m 0 + uses_here m
-    unfolding uses trimmed
-    use-past t m h = let z : get_or kept n 0 ≡ 0 = rw (← same) h in rw (eq-eqb (get_or kept n 0) 0 z) (omega arith)
-
-    pub use-leaf : (t : List ℕ) (m line : ℕ) → (get_or kept i 0 ≡ 0 → ⊥) → link_at s n ≡ leaf line → get_or t m 0 ≡ get_or t m 0 + uses_here m
-    unfolding uses_in
-    use-leaf t m line h e = rw (here-kept m h, e) (omega arith)
-
-    pub use-join : (t next : List ℕ) (p l r m : ℕ) → (get_or kept i 0 ≡ 0 → ⊥) → link_at s n ≡ join p l r
-        → ((k : ℕ) → get_or next k 0 ≡ get_or t k 0 + (naming k l + naming k r)) → get_or next m 0 ≡ get_or t m 0 + uses_here m
-    unfolding uses_in
-    use-join t next p l r m h e f = rw (here-kept m h, e) (f m)
 
 -- ---- the walk
 

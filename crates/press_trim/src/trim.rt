@@ -8,6 +8,7 @@ use press_nodes::link::Link;
 use sheet::NodeNo;
 
 // The turn at node n: a node that is kept keeps its parents.
+#[tactic(auto, unfolding(press_spec::specs::Trim::trim_turn, press_spec::specs::Trim::keep_parents, press_nodes::specs::Tables::link_in))]
 fn trim_turn(links: &[Link], n: NodeNo, kept: &mut [u8])
     requires links { Links links.now }
     requires kept_len { (length kept.old ≡ length links.now) × (n.0 < length links.now) }

@@ -12,6 +12,7 @@ use sheet::NodeNo;
 use sheet::limits::CAPACITY;
 
 // One more place names node l, and one more node r.
+#[tactic(auto, unfolding(press_spec::specs::Trim::naming))]
 fn add_uses(counts: &mut [u16], l: NodeNo, r: NodeNo)
     requires l_in_bounds { (l.0 < length counts.old) × (r.0 < length counts.old) }
     requires by_index { (m : ℕ) → get_or counts.old m 0 ≤ 2 * capacity }
@@ -24,6 +25,7 @@ fn add_uses(counts: &mut [u16], l: NodeNo, r: NodeNo)
 }
 
 // The turn at node n: the places in it, if it is kept.
+#[tactic(auto, unfolding(press_spec::specs::Trim::uses, press_spec::specs::Trim::trimmed, press_spec::specs::Trim::uses_in, press_nodes::specs::Tables::link_in))]
 fn use_turn(links: &[Link], kept: &[u8], n: NodeNo, counts: &mut [u16])
     requires links { Links links.now }
     requires kept_len { (length kept.now ≡ length links.now) × (length counts.old ≡ length links.now) × (n.0 < length links.now) }
@@ -52,6 +54,7 @@ fn count_uses(links: &[Link], kept: &[u8], counts: &mut [u16])
 }
 
 // The uses of each node in what `from` reaches, and in `kept` 1 for each node that it reaches, 0 for each other.
+#[tactic(auto, unfolding(press_spec::specs::Trim::uses_from))]
 pub fn uses_with(links: &[Link], from: NodeNo, kept: &mut [u8], counts: &mut [u16])
     requires links { Links links.now }
     requires kept_len { (length kept.old ≡ length links.now) × (length counts.old ≡ length links.now) × (from.0 < length links.now) }
