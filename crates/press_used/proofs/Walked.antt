@@ -7,12 +7,10 @@ use native.Mathlib.Omega.{arith}
 use lib.Dec.{eqb}
 use lib.ListN.{length, get_or, drop, replicate}
 use lib.Seq.{drop-length}
-use borrow.Author.Tests.{eq-eqb, ne_eqb}
 use Rattle.base.proofs.Lists.{get_d-blank}
-use Rattle.clause.specs.Clauses.{plus, minus}
-use Rattle.press_spec.specs.Links.{Link, leaf, join, link_at}
+use Rattle.press_spec.specs.Links.{Link, link_at}
 use Rattle.press_spec.specs.Trim.{trimmed}
-use Rattle.press_spec.specs.Univalents.{Used, unused, used_as, used_in, used_on}
+use Rattle.press_spec.specs.Univalents.{Used, unused, used_in, used_on}
 use Rattle.press_nodes.specs.declared.link.Link.{Link as CodeLink}
 use Rattle.press_used.specs.declared.table.Used.{Used as CodeUsed}
 use Rattle.press_used.specs.declared.table.Used.TheVariants.{Unused}
@@ -20,29 +18,12 @@ use Rattle.press_nodes.specs.Tables.{links_in}
 use Rattle.press_nodes.proofs.Tables.{links-length}
 use Rattle.press_used.specs.Table.{use_in, use_at}
 
--- ---- one turn, by what the code finds at the node
+-- ---- one turn
 
 module _ (s : List Link) (kept : List ℕ) (n : ℕ) where
   -- what m is used on, with the uses in node n, if n is kept
   abbrev pub used_here : ℕ → Used → Used
   used_here m u = cond (eqb (get_or kept n 0) 0) u (used_in m (link_at s n) u)
-
-  module _ (i : ℕ) (same : i ≡ n) where
-    pub use-past : (u : Used) (m : ℕ) → get_or kept i 0 ≡ 0 → u ≡ used_here m u
-    use-past u m h = let z : get_or kept n 0 ≡ 0 = rw (← same) h in rw (eq-eqb (get_or kept n 0) 0 z)
-
-    here-kept : (u : Used) (m : ℕ) → (get_or kept i 0 ≡ 0 → ⊥) → used_here m u ≡ used_in m (link_at s n) u
-    here-kept u m h = let z : get_or kept n 0 ≡ 0 → ⊥ = rw (← same) h in rw (ne_eqb (get_or kept n 0) 0 z)
-
-    pub use-leaf : (u : Used) (m line : ℕ) → (get_or kept i 0 ≡ 0 → ⊥) → link_at s n ≡ leaf line → u ≡ used_here m u
-    unfolding used_in
-    use-leaf u m line h e = rw (here-kept u m h, e)
-
-    pub use-join : (t half next : List CodeUsed) (p l r m : ℕ) → (get_or kept i 0 ≡ 0 → ⊥) → link_at s n ≡ join p l r
-        → ((k : ℕ) → use_at half k ≡ used_as k r (minus p) (use_at t k)) → ((k : ℕ) → use_at next k ≡ used_as k l (plus p) (use_at half k))
-        → use_at next m ≡ used_here m (use_at t m)
-    unfolding used_in
-    use-join t half next p l r m h e f g = rw (here-kept (use_at t m) m h, e, ← f m) (g m)
 
 -- ---- the walk
 

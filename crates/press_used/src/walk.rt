@@ -14,6 +14,7 @@ use press_reach::literal::Literal;
 use sheet::NodeNo;
 
 // The turn at node n: the uses in it, if it is kept.
+#[tactic(auto, unfolding(press_spec::specs::Univalents::used_in, press_nodes::specs::Tables::link_in, press_reach::specs::Literals::literal_in))]
 fn use_turn(links: &[Link], kept: &[u8], n: NodeNo, used: &mut [Used])
     requires links { Links links.now }
     requires kept_len { (length kept.now ≡ length links.now) × (length used.old ≡ length links.now) × (n.0 < length links.now) }
