@@ -5,6 +5,7 @@
 ghost use Rattle.std.specs.Prelude.{◌≡◌, ◌<◌, length};
 ghost use Rattle.press_spec.specs.Drops.{with_drops};
 ghost use Rattle.press_nodes.specs.Tables.{links_in, nodes_in, Nodes};
+ghost use Rattle.press_nodes.specs.Numbers.{numbers_in};
 ghost use Rattle.press_last.specs.LastUses.{last_uses, drop_by};
 ghost use Rattle.press_emit.specs.Emission.{emission_of, unwritten, emit_all, Roomy};
 ghost use Rattle.press_drops.specs.Turns.{records_at};
@@ -22,15 +23,15 @@ use sheet::{NodeNo, Record};
 struct Ordered<'a> {
     links: &'a [Link],
     clauses: &'a [Clause],
-    last: &'a [u16],
+    last: &'a [Option<NodeNo>],
 }
 
 impl Ordered<'_> {
     // The drop of n, which node k names, unless a later node names it.
     fn emit_last(&self, k: NodeNo, n: NodeNo, emitted: &mut Emitted)
         requires n_in_bounds { n.0 < length self.now.last.now }
-        requires roomy { Roomy (drop_by self.now.last.now k.0 n.0) (emission_of emitted.old) }
-        ensures written { emission_of emitted.new ≡ emit_all (drop_by self.now.last.now k.0 n.0) (emission_of emitted.old) }
+        requires roomy { Roomy (drop_by (numbers_in self.now.last.now) k.0 n.0) (emission_of emitted.old) }
+        ensures written { emission_of emitted.new ≡ emit_all (drop_by (numbers_in self.now.last.now) k.0 n.0) (emission_of emitted.old) }
         ensures same_reference { emitted.new.out.ghost_name ≡ emitted.old.out.ghost_name }
     {
         if !press_last::used_after(self.last, k, n) {
@@ -41,7 +42,7 @@ impl Ordered<'_> {
     // Node k, and the drops of what it names last: two of them by rising number.
     fn emit_turn(&self, k: NodeNo, emitted: &mut Emitted)
         requires nodes { Nodes self.now.links.now self.now.clauses.now }
-        requires k_in_bounds { (k.0 < length self.now.links.now) × (self.now.last.now ≡ last_uses (links_in self.now.links.now)) }
+        requires k_in_bounds { (k.0 < length self.now.links.now) × (numbers_in self.now.last.now ≡ last_uses (links_in self.now.links.now)) }
         requires roomy { Roomy (records_at (nodes_in self.now.links.now self.now.clauses.now) k.0) (emission_of emitted.old) }
         ensures written { emission_of emitted.new ≡ emit_all (records_at (nodes_in self.now.links.now self.now.clauses.now) k.0) (emission_of emitted.old) }
         ensures same_reference { emitted.new.out.ghost_name ≡ emitted.old.out.ghost_name }
@@ -73,7 +74,7 @@ pub fn emit_records<'a>(
     ensures same_reference { result.out.ghost_name ≡ out.entry.ghost_name }
 {
     let n = links.len();
-    let mut last = [0u16; CAPACITY];
+    let mut last = [None; CAPACITY];
     press_last::last_uses(links, &mut last[..n]);
     let ordered = Ordered {
         links,

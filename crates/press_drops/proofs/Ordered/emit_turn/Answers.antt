@@ -14,6 +14,7 @@ use Rattle.press_nodes.specs.declared.link.Link.TheVariants.{Join}
 use Rattle.press_nodes.specs.Tables.{link_in, links_in, nodes_in, Nodes}
 use Rattle.press_emit.specs.Emission.{Emission, emission_of, emit_record, Roomy}
 use Rattle.press_nodes.proofs.Tables.{links-nodes, link-in}
+use Rattle.press_nodes.proofs.Numbers.{numbers-length}
 use Rattle.press_nodes.proofs.Found.{found-leaf}
 use Rattle.press_last.specs.LastUses.{last_uses}
 use Rattle.press_last.proofs.Joined.{found-joined}
@@ -49,7 +50,7 @@ pub emit_last-requires-clause-n_in_bounds : goal.emit_last-requires-clause-n_in_
 emit_last-requires-clause-n_in_bounds c =
     let f = joined _ _ _ _ _ _ _ _ _ _ _ c.requires.nodes c.requires.k_in_bounds c.requires.roomy c.link_at.ensures c.in-Join.is c.node_at-record.ensures c.emit_record.ensures.written in
     let lo : c.min-low.result.0 ≡ min c.in-Join.left.0 c.in-Join.right.0 = grind (arith, common_steps, nat_tests) in
-    low-inside f lo
+    rw (← numbers-length c.args.self.now.last.now) (low-inside f lo)
 
 pub emit_last-requires-clause-roomy : goal.emit_last-requires-clause-roomy
 emit_last-requires-clause-roomy c =
@@ -63,7 +64,7 @@ emit_last-requires-then-ne-clause-n_in_bounds c =
     let lo : c.min-low.result.0 ≡ min c.in-Join.left.0 c.in-Join.right.0 = grind (arith, common_steps, nat_tests) in
     let hi : c.max-high.result.0 ≡ max c.in-Join.left.0 c.in-Join.right.0 = grind (arith, common_steps, nat_tests) in
     let q = differ _ _ c.if-ne.ensures in
-    high-inside f lo hi q
+    rw (← numbers-length c.args.self.now.last.now) (high-inside f lo hi q)
 
 pub emit_last-requires-then-ne-clause-roomy : goal.emit_last-requires-then-ne-clause-roomy
 emit_last-requires-then-ne-clause-roomy c =
