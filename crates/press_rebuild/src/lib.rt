@@ -86,6 +86,7 @@ fn renew_step(
 }
 
 // Node n, which is kept with this cut. It knows nothing of who decided the cut: a pass may decide on its way and call this at once.
+#[tactic(auto, unfolding(press_nodes::specs::Tables::link_in))]
 pub fn renew_node(
     links: &mut [Link],
     clauses: &mut [Clause],

@@ -1,19 +1,16 @@
--- One turn of collecting, by what the code finds at the node; and the walk over the tables is the walk over the nodes.
+-- What is collected has room in a set; and the walk over the tables is the walk over the nodes.
 use Prim.Native.Nat.{ℕ, suc, ◌≤◌, ◌<◌}
-use mathlib.Core.Bool.{true, false, cond, ◌&&◌}
 use mathlib.Core.List.{List}
-use mathlib.Core.Path.{◌≡◌, refl, sym, ap, ◌∙◌}
+use mathlib.Core.Path.{◌≡◌, sym, ap, ◌∙◌}
 use native.Mathlib.Omega.{arith}
-use lib.Dec.{leb}
-use lib.ListN.{length, get_or, set, replicate}
-use borrow.Author.Tests.{le-leb, lt-leb}
+use lib.ListN.{length, get_or, replicate}
 use Rattle.base.specs.Folds.{fall}
 use Rattle.base.proofs.Folds.{fall-all, fall-same}
-use Rattle.clause.specs.Clauses.{Literals, none, holds, adding}
+use Rattle.clause.specs.Clauses.{Literals, none}
 use Rattle.clause.specs.Denote.{width}
-use Rattle.press_spec.specs.Lower.{Lowered, staying, lowered, opposite, single, LoweredOnes, lowered_ones, none_lowered, lower}
-use Rattle.press_spec.specs.Units.{collect, collect_turn}
-use Rattle.press_nodes.specs.Tables.{clauses_in, nodes_in}
+use Rattle.press_spec.specs.Lower.{single, LoweredOnes, lowered_ones, none_lowered}
+use Rattle.press_spec.specs.Units.{collect_turn}
+use Rattle.press_nodes.specs.Tables.{nodes_in}
 use Rattle.press_nodes.proofs.Tables.{clauses-at}
 use Rattle.std.specs.Prelude.{Option, Some, None}
 use Rattle.clause.specs.declared.Clause.{Clause}
@@ -28,39 +25,6 @@ use Rattle.press_units.specs.Turns.{collect_in}
 pub found-narrow : (v : ℕ) (c : Literals) {x : Option CodeLiteral} {y : CodeLiteral} → lowered_in x ≡ single v c → x ≡ Some y → v ≤ width → Narrow (literal_in y)
 unfolding lowered_in
 found-narrow v c {x} {y} told q h = single-narrow v c (literal_in y) h (sym told ∙ ap lowered_in q)
-
--- ---- one turn
-
-module _ (v : ℕ) (clauses : List Clause) (uses : List ℕ) (n i : ℕ) (same : i ≡ n) (w : LoweredOnes) where
-  few-collected : (m : Lowered) → get_or uses i 0 < 2 → w ≡ collect n (get_or uses n 0) m w
-  unfolding collect
-  few-collected staying h = refl
-  few-collected (lowered x) h = let f : get_or uses n 0 < 2 = rw (← same) h in rw (lt-leb 2 (get_or uses n 0) f)
-
-  pub collect-few : get_or uses i 0 < 2 → w ≡ collect_in v clauses uses n w
-  unfolding collect_in
-  collect-few h = few-collected (single v (clauses_in clauses n)) h
-
-  module _ {c : Literals} {x : Option CodeLiteral} (read : c ≡ clauses_in clauses n) (told : lowered_in x ≡ single v c) where
-    pub collect-staying : x ≡ None → w ≡ collect_in v clauses uses n w
-    unfolding collect_in collect lowered_in
-    collect-staying q = rw (← read, ← told, q)
-
-    module _ {y : CodeLiteral} (q : x ≡ Some y) where
-      pub collect-owed : holds (literal_in y) w.owed ≡ true → w ≡ collect_in v clauses uses n w
-      unfolding collect_in collect lowered_in
-      collect-owed h = rw (← read, ← told, q, h) (both (leb 2 (get_or uses n 0)))
-        where
-          both : (b : _) → w ≡ cond (b && false) (lower n (literal_in y) w) w
-          both true = refl
-          both false = refl
-
-      pub collect-lowers : {t : List Lowered} {D : Literals} → 2 ≤ get_or uses i 0 → holds (literal_in y) w.owed ≡ false
-          → t ≡ set w.low n (lowered (literal_in y)) → D ≡ adding (opposite (literal_in y)) w.owed → lowered_ones t D ≡ collect_in v clauses uses n w
-      unfolding collect_in collect lowered_in lower
-      collect-lowers h o e d =
-          let f : 2 ≤ get_or uses n 0 = rw (← same) h in
-          rw (← read, ← told, q, o, le-leb 2 (get_or uses n 0) f, e, d)
 
 -- ---- the walk
 

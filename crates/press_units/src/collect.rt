@@ -22,6 +22,7 @@ use sheet::NodeNo;
 const SEVERAL: u16 = 2;
 
 // The turn at node n, where `owed` holds the opposites of what is collected so far: what it holds then.
+#[tactic(auto, unfolding(crate::specs::Turns::collect_in, press_spec::specs::Units::collect, press_spec::specs::Lower::lower, press_lowered::specs::Table::lowered_in))]
 fn collect_turn(
     variables: u8,
     clauses: &[Clause],

@@ -1,4 +1,3 @@
-use native.Mathlib.Omega.{arith}
 use Rattle.press_nodes.proofs.Tables.{given-there, step-there}
 use Rattle.press_nodes.proofs.Found.{found-leaf, found-join}
 use Rattle.press_rebuild.proofs.Rebuilds.{node-stands, node-renews}
@@ -11,8 +10,3 @@ returns-in_default c =
 pub returns : goal.returns
 returns c =
     node-renews _ _ _ _ _ _ _ _ _ (step-there _ _ _ _ _ _ c.requires.n_in_bounds.0 (found-join _ _ _ _ _ c.link_at.ensures c.in-Join.is)) c.renew_step.ensures
-
-pub renew_step-requires-clause-n_in_bounds : goal.renew_step-requires-clause-n_in_bounds
-renew_step-requires-clause-n_in_bounds c =
-    let o = rw (found-join _ _ _ _ _ c.link_at.ensures c.in-Join.is) at c.requires.n_in_bounds.1 in
-    (c.requires.n_in_bounds.0, omega arith, omega arith)
