@@ -1,13 +1,13 @@
 -- What a call from C comes to: the answer, and what the lent memory then holds.
-use Rattle.std.specs.Prelude.{ℕ, cond, List}
+use Rattle.std.specs.Prelude.{ℕ, cond, List, Result, Ok, Err}
+use Rattle.press_spec.specs.declared.Plan.{Plan}
 use Rattle.press_spec.specs.Press as Press
 use Rattle.press_spec.specs.Press.{Call}
 use Rattle.replay_spec.specs.Slots.{Slot}
 use Rattle.replay_spec.specs.Replay as Replay
 use Rattle.c_report.specs.Report.{fill, press_code, press_words, replay_code, replay_words}
-use Rattle.c_report.specs.Named.{no_edition, names, edition_of, plan_of}
-use Rattle.c_report.specs.declared.named.Naming.{Naming}
-use Rattle.c_report.specs.declared.named.Naming.TheVariants.{Named, Unnamed}
+use Rattle.c_report.specs.Named.{no_edition, unnamed_code, names, edition_of, plan_of}
+use Rattle.c_report.specs.declared.named.Unnamed.{Unnamed}
 
 pub record Pressing : Type 0 where
   pub code : ℕ
@@ -23,9 +23,9 @@ unfoldable pub told_press : Press.Outcome → List ℕ → Pressing
 told_press o report = pressing (press_code o.answer) o.out o.marks (fill 0 (press_words o.answer) report)
 
 -- by the plan that is named; numbers that name none touch nothing
-unfoldable pub press_as : Naming → Call → List ℕ → Pressing
-press_as (Named plan) c report = told_press (Press.press plan c) report
-press_as (Unnamed code) c report = pressing code c.out c.marks report
+unfoldable pub press_as : Result Plan Unnamed → Call → List ℕ → Pressing
+press_as (Ok plan) c report = told_press (Press.press plan c) report
+press_as (Err what) c report = pressing (unnamed_code what) c.out c.marks report
 
 -- by the numbers of the edition, the recycling and the lowering
 unfoldable pub press_by : ℕ → ℕ → ℕ → Call → List ℕ → Pressing

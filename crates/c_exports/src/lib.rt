@@ -9,8 +9,9 @@ ghost use Rattle.replay_slots.specs.Said.{row_of};
 ghost use Rattle.c_exports.specs.Calls.{pressing, press_by, replaying, replay_by};
 
 use c_report::named;
-use c_report::named::Naming;
+use c_report::named::Unnamed;
 use replay_slots::Slot;
+use sheet::edition::Edition;
 
 // Presses `sheet` against `rules` into `out`, marks the rule lines used in `marks`, and fills `report` with the record, positive,
 // negative, records, nodes, steps, peak, marked and the sets' high words, as many as fit. Answers 0, or the number of the refusal.
@@ -26,12 +27,9 @@ pub fn tempuquile_press(
 ) -> u32
     ensures { pressing result out.new marks.new report.new ≡ press_by edition recycling lowering (call sheet.now rules.now out.old marks.old) report.old }
 {
-    let naming = named::plan_of(edition, recycling, lowering);
-    match naming {
-        Naming::Named(plan) => {
-            c_report::tell_press(press::press(plan, sheet, rules, out, marks), report)
-        }
-        Naming::Unnamed(code) => code,
+    match named::plan_of(edition, recycling, lowering) {
+        Ok(plan) => c_report::tell_press(press::press(plan, sheet, rules, out, marks), report),
+        Err(what) => u32::from(what),
     }
 }
 
@@ -46,9 +44,8 @@ pub fn tempuquile_replay(
 ) -> u32
     ensures { replaying result (row_of slots.new) report.new ≡ replay_by edition sheet.now rules.now (row_of slots.old) report.old }
 {
-    if named::names_one(edition) {
-        let of = named::edition_of(edition);
-        return c_report::tell_replay(replay::replay(of, sheet, rules, slots), report);
+    match Edition::try_from(edition) {
+        Ok(of) => c_report::tell_replay(replay::replay(of, sheet, rules, slots), report),
+        Err(none) => u32::from(Unnamed::from(none)),
     }
-    named::NO_EDITION
 }

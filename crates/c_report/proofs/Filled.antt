@@ -1,40 +1,39 @@
--- A report is filled some words at a time.
-use mathlib.Core.Path.{◌≡◌}
-use mathlib.Core.List.{List, [], ◌∷◌}
-use Prim.Native.Nat.{ℕ, suc, ◌+◌}
-use native.Mathlib.Omega.{arith}
-use lib.ListN.{set}
+-- A report is filled with as many words as there is room for; and what the words of an answer are.
+use Rattle.std.proofs.Common.{◌≡◌, ℕ, zero, suc, min, List, [], ◌∷◌, ◌++◌, length, take, drop, set, refl, sym, ap, ◌∙◌, arith, suc-ne-zero, Ok, Err}
 use lib.Pow.{high, low}
 use Rattle.clause.specs.declared.Clause.{Clause}
 use Rattle.clause.specs.Denote.{literals_of, ClauseFits}
-use Rattle.sheet.specs.declared.Reason.{Reason}
-use Rattle.sheet.specs.declared.RecordNo.{RecordNo}
 use Rattle.sheet.specs.Reasons.{number_of}
-use Rattle.press_spec.specs.declared.Order.{Order}
-use Rattle.press_spec.specs.declared.Order.TheVariants.{BottomUp, TopDown}
 use Rattle.press_spec.specs.Better.{order_number}
 use Rattle.press_write.specs.declared.Pressed.{Pressed}
-use Rattle.press.specs.declared.PressAnswer.{PressAnswer}
-use Rattle.press.specs.declared.PressAnswer.TheVariants.{Accepted, Refused}
 use Rattle.press.specs.Said.{said}
 use Rattle.replay_answer.specs.declared.Replayed.{Replayed}
-use Rattle.replay_answer.specs.declared.ReplayAnswer.{ReplayAnswer}
-use Rattle.replay_answer.specs.declared.ReplayAnswer.TheVariants as A
 use Rattle.replay_answer.specs.Answers.{said as said-of-replay}
 use Rattle.c_report.specs.Report.{fill, low_word, high_word, press_code, press_words, replay_code, replay_words}
 
-pub two-filled : (i j a b : ℕ) (r r₁ r₂ : List ℕ) → j ≡ i + 1 → r₁ ≡ set r i a → r₂ ≡ set r₁ j b → r₂ ≡ fill i (a ∷ b ∷ []) r
-unfolding fill
-two-filled i j a b r r₁ r₂ p e f =
-    let p' : j ≡ suc i = omega arith in
-    rw (f, e, p')
+-- ---- filling
 
-pub four-filled : (i j a b c d : ℕ) (r r₁ r₂ : List ℕ) → j ≡ i + 2 → r₁ ≡ fill i (a ∷ b ∷ []) r → r₂ ≡ fill j (c ∷ d ∷ []) r₁
-    → r₂ ≡ fill i (a ∷ b ∷ c ∷ d ∷ []) r
+-- past the first word of the row, filling is filling what follows it
+fill-past : (i : ℕ) (ws : List ℕ) (x : ℕ) (row : List ℕ) → fill (suc i) ws (x ∷ row) ≡ x ∷ fill i ws row
 unfolding fill
-four-filled i j a b c d r r₁ r₂ p e f =
-    let p' : j ≡ suc (suc i) = omega arith in
-    rw (f, e, p')
+fill-past i [] x row = refl
+fill-past i (w ∷ ws) x row = fill-past (suc i) ws x (set row i w)
+
+fill-none : (i : ℕ) (ws : List ℕ) → fill i ws [] ≡ []
+unfolding fill
+fill-none i [] = refl
+fill-none i (w ∷ ws) = fill-none (suc i) ws
+
+pub filled : (ws row : List ℕ) (n : ℕ) → n ≡ min (length row) (length ws) → take n ws ++ drop n row ≡ fill 0 ws row
+unfolding fill
+filled [] row zero e = refl
+filled [] row (suc n) e = let z : suc n ≡ 0 = omega (arith, e) in absurd (suc-ne-zero _ z)
+filled (w ∷ ws) [] zero e = sym (fill-none 1 ws)
+filled (w ∷ ws) [] (suc n) e = let z : suc n ≡ 0 = omega (arith, e) in absurd (suc-ne-zero _ z)
+filled (w ∷ ws) (x ∷ row) zero e = let z : 1 ≡ 0 = omega (arith, e) in absurd (suc-ne-zero _ z)
+filled (w ∷ ws) (x ∷ row) (suc n) e =
+    let same : n ≡ min (length row) (length ws) = omega (arith, e) in
+    ap (λ (l : List ℕ). w ∷ l) (filled ws row n same) ∙ sym (fill-past 0 ws w row)
 
 -- ---- the words of a clause
 
@@ -55,48 +54,20 @@ module _ (c : Clause) (fits : ClauseFits c) where
   unfolding high_word
   negative-high = high c.negative.high 64 fits.1.0
 
--- ---- the order
+-- ---- the words of an answer
 
-module _ (which : Order) where
-  pub old-number : which ≡ BottomUp → 0 ≡ order_number which
-  unfolding order_number
-  old-number e = rw e
+pub words-of-press : (p : Pressed) (n : ℕ) → ClauseFits p.conclusion → n ≡ order_number p.order
+    → 0 ∷ p.conclusion.positive.low ∷ p.conclusion.negative.low ∷ p.records ∷ p.nodes ∷ p.steps ∷ p.peak ∷ p.marked ∷ p.conclusion.positive.high ∷ p.conclusion.negative.high ∷ n ∷ []
+    ≡ press_words (said (Ok p))
+unfolding press_words said
+words-of-press p n h o =
+    let c = p.conclusion in
+    rw (o, positive-low c h, negative-low c h, positive-high c h, negative-high c h)
 
-  pub new-number : which ≡ TopDown → 1 ≡ order_number which
-  unfolding order_number
-  new-number e = rw e
-
--- ---- what is told
-
-pub told-accepted : (a : PressAnswer) (done : Pressed) (n : ℕ) (r r₁ r₂ r₃ r₄ : List ℕ) → a ≡ Accepted done → ClauseFits done.conclusion
-    → r₁ ≡ fill 0 (0 ∷ done.conclusion.positive.low ∷ done.conclusion.negative.low ∷ done.records ∷ []) r
-    → r₂ ≡ fill 4 (done.nodes ∷ done.steps ∷ done.peak ∷ done.marked ∷ []) r₁
-    → r₃ ≡ fill 8 (done.conclusion.positive.high ∷ done.conclusion.negative.high ∷ []) r₂
-    → n ≡ order_number done.order
-    → r₄ ≡ set r₃ 10 n
-    → (0 ≡ press_code (said a)) × (r₄ ≡ fill 0 (press_words (said a)) r)
-unfolding fill press_code press_words said
-told-accepted a done n r r₁ r₂ r₃ r₄ q h e f g o k =
-    let c = done.conclusion in
-    (rw q, rw (k, o, g, f, e, q, positive-low c h, negative-low c h, positive-high c h, negative-high c h))
-
-pub told-refused : (a : PressAnswer) (why : Reason) (k : RecordNo) (code : ℕ) (r r₁ r₂ r₃ r₄ : List ℕ) → a ≡ Refused why k → code ≡ number_of why
-    → r₁ ≡ fill 0 (k.0 ∷ 0 ∷ 0 ∷ 0 ∷ []) r → r₂ ≡ fill 4 (0 ∷ 0 ∷ 0 ∷ 0 ∷ []) r₁ → r₃ ≡ fill 8 (0 ∷ 0 ∷ []) r₂ → r₄ ≡ set r₃ 10 0
-    → (code ≡ press_code (said a)) × (r₄ ≡ fill 0 (press_words (said a)) r)
-unfolding fill press_code press_words said
-told-refused a why k code r r₁ r₂ r₃ r₄ q n e f g o = (rw (n, q), rw (o, g, f, e, q))
-
-pub replay-accepted : (a : ReplayAnswer) (done : Replayed) (r r₁ r₂ : List ℕ) → a ≡ A.Accepted done → ClauseFits done.conclusion
-    → r₁ ≡ fill 0 (0 ∷ done.conclusion.positive.low ∷ done.conclusion.negative.low ∷ done.nodes ∷ []) r
-    → r₂ ≡ fill 4 (done.steps ∷ done.peak ∷ done.conclusion.positive.high ∷ done.conclusion.negative.high ∷ []) r₁
-    → (0 ≡ replay_code (said-of-replay a)) × (r₂ ≡ fill 0 (replay_words (said-of-replay a)) r)
-unfolding fill replay_code replay_words said-of-replay
-replay-accepted a done r r₁ r₂ q h e f =
-    let c = done.conclusion in
-    (rw q, rw (f, e, q, positive-low c h, negative-low c h, positive-high c h, negative-high c h))
-
-pub replay-refused : (a : ReplayAnswer) (why : Reason) (k : RecordNo) (code : ℕ) (r r₁ r₂ : List ℕ) → a ≡ A.Refused why k → code ≡ number_of why
-    → r₁ ≡ fill 0 (k.0 ∷ 0 ∷ 0 ∷ 0 ∷ []) r → r₂ ≡ fill 4 (0 ∷ 0 ∷ 0 ∷ 0 ∷ []) r₁
-    → (code ≡ replay_code (said-of-replay a)) × (r₂ ≡ fill 0 (replay_words (said-of-replay a)) r)
-unfolding fill replay_code replay_words said-of-replay
-replay-refused a why k code r r₁ r₂ q n e f = (rw (n, q), rw (f, e, q))
+pub words-of-replay : (r : Replayed) → ClauseFits r.conclusion
+    → 0 ∷ r.conclusion.positive.low ∷ r.conclusion.negative.low ∷ r.nodes ∷ r.steps ∷ r.peak ∷ r.conclusion.positive.high ∷ r.conclusion.negative.high ∷ []
+    ≡ replay_words (said-of-replay (Ok r))
+unfolding replay_words said-of-replay
+words-of-replay r h =
+    let c = r.conclusion in
+    rw (positive-low c h, negative-low c h, positive-high c h, negative-high c h)

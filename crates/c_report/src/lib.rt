@@ -1,43 +1,31 @@
 // What is said of an answer: 0 or the refusal's number, and a lent row of words.
 #![tactic(auto)]
 
-ghost use Rattle.std.specs.Prelude.{◌≡◌, [], ◌∷◌, ◌<◌, set};
+ghost use Rattle.std.specs.Prelude.{◌≡◌, [], ◌∷◌, ◌-◌, ◌<◌, replicate};
 ghost use Rattle.press_spec.specs.Better.{order_number};
 ghost use Rattle.press.specs.Said.{said};
 ghost use Rattle.replay_answer.specs.Answers.{said as said_of_replay};
 ghost use Rattle.c_report.specs.Report.{fill, press_code, press_words, replay_code, replay_words};
 
-use press::PressAnswer;
+use clause::Clause;
 use press_spec::Order;
-use replay_answer::ReplayAnswer;
+use press_write::Pressed;
+use replay_answer::Replayed;
+use sheet::Refusal;
 
 pub mod named;
 
-// A word of the report, where there is room for it.
-fn put(report: &mut [u64], i: usize, word: u64)
-    ensures { report.new ≡ set report.old i word }
-{
-    if i < report.len() {
-        report[i] = word;
-    }
-}
+// The words of a report of a press, and of one of a replay.
+const PRESS_WORDS: usize = 11;
 
-// Two words, one after the other.
-fn put_two(report: &mut [u64], i: usize, a: u64, b: u64)
-    requires { i < 9 }
-    ensures { report.new ≡ fill i (a ∷ b ∷ []) report.old }
-{
-    put(report, i, a);
-    put(report, i + 1, b);
-}
+const REPLAY_WORDS: usize = 8;
 
-// Four words, one after another.
-fn put_four(report: &mut [u64], i: usize, a: u64, b: u64, c: u64, d: u64)
-    requires { i < 5 }
-    ensures { report.new ≡ fill i (a ∷ b ∷ c ∷ d ∷ []) report.old }
+// As many of the words as there is room for.
+fn fill(report: &mut [u64], words: &[u64])
+    ensures { report.new ≡ fill 0 words.now report.old }
 {
-    put_two(report, i, a, b);
-    put_two(report, i + 2, c, d);
+    let n = report.len().min(words.len());
+    report[..n].copy_from_slice(&words[..n]);
 }
 
 fn order_number(order: Order) -> u64
@@ -49,72 +37,81 @@ fn order_number(order: Order) -> u64
     }
 }
 
+// The words of a refusal: its record, and zeros.
+fn refused<const N: usize>(refusal: Refusal) -> [u64; N]
+    requires { 0 < N }
+    ensures { result ≡ refusal.at.0 ∷ replicate (N - 1) 0 }
+{
+    let mut words = [0; N];
+    words[0] = refusal.at.0 as u64;
+    words
+}
+
+fn words_of_press(pressed: Pressed) -> [u64; PRESS_WORDS]
+    ensures { result ≡ press_words (said (Ok pressed)) }
+{
+    let Clause { positive, negative } = pressed.conclusion;
+    [
+        0,
+        positive.low,
+        negative.low,
+        u64::from(pressed.records),
+        u64::from(pressed.nodes),
+        u64::from(pressed.steps),
+        u64::from(pressed.peak),
+        u64::from(pressed.marked),
+        positive.high,
+        negative.high,
+        order_number(pressed.order),
+    ]
+}
+
 // What is said of a press.
-pub fn tell_press(answer: PressAnswer, report: &mut [u64]) -> u32
+pub fn tell_press(answer: Result<Pressed, Refusal>, report: &mut [u64]) -> u32
     ensures code { result ≡ press_code (said answer) }
     ensures words { report.new ≡ fill 0 (press_words (said answer)) report.old }
 {
     match answer {
-        PressAnswer::Accepted(done) => {
-            let conclusion = done.conclusion;
-            let positive = conclusion.positive;
-            let negative = conclusion.negative;
-            put_four(
-                report,
-                0,
-                0,
-                positive.low,
-                negative.low,
-                done.records as u64,
-            );
-            put_four(
-                report,
-                4,
-                done.nodes as u64,
-                done.steps as u64,
-                done.peak as u64,
-                done.marked as u64,
-            );
-            put_two(report, 8, positive.high, negative.high);
-            let order = done.order;
-            put(report, 10, order_number(order));
+        Ok(pressed) => {
+            fill(report, &words_of_press(pressed));
             0
         }
-        PressAnswer::Refused(why, k) => {
-            put_four(report, 0, k.0 as u64, 0, 0, 0);
-            put_four(report, 4, 0, 0, 0, 0);
-            put_two(report, 8, 0, 0);
-            put(report, 10, 0);
-            sheet::number_of(why)
+        Err(refusal) => {
+            fill(report, &refused::<PRESS_WORDS>(refusal));
+            sheet::number_of(refusal.why)
         }
     }
 }
 
+fn words_of_replay(replayed: Replayed) -> [u64; REPLAY_WORDS]
+    ensures { result ≡ replay_words (said_of_replay (Ok replayed)) }
+{
+    let conclusion = replayed.conclusion;
+    [
+        0,
+        conclusion.positive.low,
+        conclusion.negative.low,
+        u64::from(replayed.nodes),
+        u64::from(replayed.steps),
+        u64::from(replayed.peak),
+        conclusion.positive.high,
+        conclusion.negative.high,
+    ]
+}
+
 // What is said of a replay.
-pub fn tell_replay(answer: ReplayAnswer, report: &mut [u64]) -> u32
+pub fn tell_replay(answer: Result<Replayed, Refusal>, report: &mut [u64]) -> u32
     ensures code { result ≡ replay_code (said_of_replay answer) }
     ensures words { report.new ≡ fill 0 (replay_words (said_of_replay answer)) report.old }
 {
     match answer {
-        ReplayAnswer::Accepted(done) => {
-            let conclusion = done.conclusion;
-            let positive = conclusion.positive;
-            let negative = conclusion.negative;
-            put_four(report, 0, 0, positive.low, negative.low, done.nodes as u64);
-            put_four(
-                report,
-                4,
-                done.steps as u64,
-                done.peak as u64,
-                positive.high,
-                negative.high,
-            );
+        Ok(replayed) => {
+            fill(report, &words_of_replay(replayed));
             0
         }
-        ReplayAnswer::Refused(why, k) => {
-            put_four(report, 0, k.0 as u64, 0, 0, 0);
-            put_four(report, 4, 0, 0, 0, 0);
-            sheet::number_of(why)
+        Err(refusal) => {
+            fill(report, &refused::<REPLAY_WORDS>(refusal));
+            sheet::number_of(refusal.why)
         }
     }
 }

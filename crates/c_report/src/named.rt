@@ -1,84 +1,71 @@
-// What a caller names by numbers: the edition of a replay, the plan of a press.
+// What a caller names by numbers: the plan of a press; the edition of a replay is one by itself (`Edition::try_from`).
 ghost use Rattle.std.specs.Prelude.{◌≡◌};
-ghost use Rattle.c_report.specs.Named.{names, names_lowering, edition_of, recycling_of, lowering_of, plan_of};
+ghost use Rattle.c_report.specs.Named.{unnamed_code, lowering_named, plan_of};
+ghost use Rattle.c_report.specs.declared.named.Unnamed.TheVariants as U;
 
-use press_spec::{Lowerable, Lowering, Plan, Recycling};
-use sheet::edition::Edition;
+use press_spec::{Lowerable, NoLowerable, NoRecycling, Plan, Recycling};
+use sheet::edition::{Edition, NoEdition};
 
-// What is answered to a number that names no edition, to one that names no recycling, and to one that names no lowering.
-pub const NO_EDITION: u32 = 255;
-
-pub const NO_RECYCLING: u32 = 254;
-
-pub const NO_LOWERING: u32 = 253;
-
-pub fn names_one(number: u32) -> bool
-    ensures { result ≡ names number }
-{
-    number < 2
+// What a number does not name, with the number that is answered.
+#[derive(Clone, Copy, PartialEq, Eq)]
+pub enum Unnamed {
+    Edition = 255,
+    Recycling = 254,
+    Lowering = 253,
 }
 
-fn names_lowering(number: u32) -> bool
-    ensures { result ≡ names_lowering number }
-{
-    number < 3
+impl From<NoEdition> for Unnamed {
+    ghost from_gives = { λ _ what. what ≡ U.Edition };
+
+    fn from(_number: NoEdition) -> Unnamed {
+        Unnamed::Edition
+    }
 }
 
-// The edition that a number names; of those that name none it may be any.
-pub fn edition_of(number: u32) -> Edition
-    ensures { result ≡ edition_of number }
+impl From<NoRecycling> for Unnamed {
+    ghost from_gives = { λ _ what. what ≡ U.Recycling };
+
+    fn from(_number: NoRecycling) -> Unnamed {
+        Unnamed::Recycling
+    }
+}
+
+impl From<NoLowerable> for Unnamed {
+    ghost from_gives = { λ _ what. what ≡ U.Lowering };
+
+    fn from(_number: NoLowerable) -> Unnamed {
+        Unnamed::Lowering
+    }
+}
+
+impl From<Unnamed> for u32 {
+    ghost from_gives = { λ what number. number ≡ unnamed_code what };
+
+    #[tactic(auto, unfolding(crate::specs::Named::unnamed_code))]
+    fn from(what: Unnamed) -> u32 {
+        what as u32
+    }
+}
+
+// 0 names that nothing is lowered.
+#[tactic(auto, unfolding(crate::specs::Named::lowering_named))]
+fn lowering_named(number: u32) -> Result<Option<Lowerable>, NoLowerable>
+    ensures { result ≡ lowering_named number }
 {
     if number == 0 {
-        return Edition::Narrow;
+        return Ok(None);
     }
-    Edition::Wide
-}
-
-fn recycling_of(number: u32) -> Recycling
-    ensures { result ≡ recycling_of number }
-{
-    if number == 0 {
-        return Recycling::Reset;
-    }
-    Recycling::Intersection
-}
-
-fn lowering_of(number: u32) -> Lowering
-    ensures { result ≡ lowering_of number }
-{
-    if number == 0 {
-        return Lowering::Nothing;
-    }
-    if number == 1 {
-        return Lowering::Of(Lowerable::Units);
-    }
-    Lowering::Of(Lowerable::Univalents)
-}
-
-// A plan, or what is answered to numbers that name none.
-#[derive(Clone, Copy)]
-pub enum Naming {
-    Named(Plan),
-    Unnamed(u32),
+    Ok(Some(Lowerable::try_from(number)?))
 }
 
 // The edition is looked at first, then the recycling, then the lowering.
-pub fn plan_of(edition: u32, recycling: u32, lowering: u32) -> Naming
+#[tactic(auto, unfolding(crate::specs::Named::plan_of))]
+pub fn plan_of(edition: u32, recycling: u32, lowering: u32) -> Result<Plan, Unnamed>
     ensures { result ≡ plan_of edition recycling lowering }
 {
-    if names_one(edition) {
-        if names_one(recycling) {
-            if names_lowering(lowering) {
-                let plan = Plan {
-                    edition: edition_of(edition),
-                    recycling: recycling_of(recycling),
-                    lowering: lowering_of(lowering),
-                };
-                return Naming::Named(plan);
-            }
-            return Naming::Unnamed(NO_LOWERING);
-        }
-        return Naming::Unnamed(NO_RECYCLING);
-    }
-    Naming::Unnamed(NO_EDITION)
+    Ok(Plan {
+        edition: Edition::try_from(edition)?,
+        recycling: Recycling::try_from(recycling)?,
+        lowering: lowering_named(lowering)?,
+    })
 }

@@ -15,10 +15,8 @@ use Rattle.press_spec.proofs.Nodes.{proper-falling}
 use Rattle.press_spec.proofs.Drops.{length-with_drops-most}
 use Rattle.press_spec.proofs.Accepts.{Enough, press-fine, accepted-says}
 use Rattle.press_write.specs.declared.Pressed.{Pressed}
-use Rattle.press.specs.declared.PressAnswer.{PressAnswer}
-use Rattle.press.specs.declared.PressAnswer.TheVariants.{Accepted, Refused}
 use Rattle.press_write.specs.Reported.{reported}
-use Rattle.press.specs.Said.{said}
+use Rattle.press.specs.Said.{PressAnswer, said}
 use Rattle.press.proofs.Ready.{press-refused}
 use Rattle.program_whole.specs.Whole.{program_plan, Starts, Fits}
 
@@ -34,7 +32,7 @@ module _ (z : Sizes) (fine : check_press Narrow z ≡ Ok tt) where
 
 pub whole-refused : (v : Verdict) (why : Reason) (m n : ℕ) (sheet rules out marks s t : List ℕ)
     → v ≡ check_press Narrow (sizes m n (length out) (length marks)) → v ≡ Err why → Starts s m sheet → Starts t n rules
-    → outcome (said (Refused why (record { 0 = 0 }))) out marks ≡ press program_plan (call s t out marks)
+    → outcome (said (Err (record { why = why; at = record { 0 = 0 } }))) out marks ≡ press program_plan (call s t out marks)
 whole-refused v why m n sheet rules out marks s t q e a b = press-refused program_plan (call s t out marks) v why (rw (a.0, b.0) q) e
 
 pub whole-pressed : (m n : ℕ) (sheet rules out marks s t : List ℕ) (o : Outcome) → m ≤ length sheet → n ≤ length rules
@@ -43,12 +41,12 @@ whole-pressed m n sheet rules out marks s t o i j a b e = rw (a.1 i, b.1 j) e
 
 pub accepted-fits : (r : PressAnswer) (c : Call) (out marks : List ℕ) → outcome (said r) out marks ≡ press program_plan c → Fits (length c.out) r
 unfolding said
-accepted-fits (Accepted p) c out marks e =
+accepted-fits (Ok p) c out marks e =
     let y = accepted-says program_plan c (reported p) (sym (ap (λ (o : Outcome). o.answer) e)) in
     let s = pressed program_plan y.input in
     let most = length-with_drops-most s (proper-falling Narrow c.rules s y.kept.proper) in
     omega (arith, y.recorded, most, y.kept.fits, y.kept.some, y.enough.1.0)
-accepted-fits (Refused why k) c out marks e = tt
+accepted-fits (Err r) c out marks e = tt
 
-pub fits-bytes : (room : ℕ) (r : PressAnswer) (p : Pressed) → r ≡ Accepted p → Fits room r → record_bytes Narrow * p.records ≤ room
+pub fits-bytes : (room : ℕ) (r : PressAnswer) (p : Pressed) → r ≡ Ok p → Fits room r → record_bytes Narrow * p.records ≤ room
 fits-bytes room r p e f = rw e at f

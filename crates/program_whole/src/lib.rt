@@ -8,17 +8,16 @@ ghost use Rattle.press.specs.Said.{said};
 ghost use Rattle.press_spec.specs.Press.{call, outcome, press};
 ghost use Rattle.program_whole.specs.Whole.{program_plan, Starts, Fits};
 
-use press::PressAnswer;
-use press_spec::{Lowering, Plan, Recycling};
+use press_spec::{Plan, Recycling};
 use press_write::Pressed;
 use sheet::edition::Edition;
-use sheet::{RecordNo, Verdict};
+use sheet::{RecordNo, Refusal};
 
 // What the program presses by.
 pub const PLAN: Plan = Plan {
     edition: Edition::Narrow,
     recycling: Recycling::Intersection,
-    lowering: Lowering::Nothing,
+    lowering: None,
 };
 
 // Presses two files of the narrow edition, of which the starts are at hand: the answer is that of the whole files.
@@ -29,7 +28,7 @@ pub fn press_whole(
     rules_length: usize,
     out: &mut [u8],
     marks: &mut [u8],
-) -> PressAnswer
+) -> Result<Pressed, Refusal>
     requires { (record_bytes Narrow * press_records Narrow ≤ length sheet.now) × (line_bytes Narrow * table_lines Narrow ≤ length rules.now) }
     ensures whole { (s t : List ℕ) → Starts s sheet_length sheet.now → Starts t rules_length rules.now → outcome (said result) out.new marks.new ≡ press program_plan (call s t out.old marks.old) }
     ensures fits { Fits (length out.old) result }
@@ -41,9 +40,9 @@ pub fn press_whole(
         out.len(),
         marks.len(),
     );
-    match verdict {
-        Verdict::Fine => {}
-        Verdict::Refused(why) => return PressAnswer::Refused(why, RecordNo(0)),
+    if let Err(why) = verdict {
+        let at = RecordNo(0);
+        return Err(Refusal { why, at });
     }
     press::press(
         PLAN,

@@ -6,20 +6,19 @@ ghost use Rattle.press_spec.specs.Press.{call, press};
 ghost use Rattle.demands.specs.Shipping.{ship};
 ghost use Rattle.ship.specs.Said.{said_of_shipment};
 
-use press::PressAnswer;
 use press_spec::Plan;
 use press_write::Pressed;
-use replay_answer::ReplayAnswer;
-use sheet::{Reason, RecordNo};
+use replay_answer::Replayed;
+use sheet::Refusal;
 
-// The press refused; or what it reported, and what the replay of its output answered.
+// What the press reported, and what the replay of its output answered.
 #[derive(Clone, Copy)]
-pub enum Shipment {
-    Refused(Reason, RecordNo),
-    Tried(Pressed, ReplayAnswer),
+pub struct Shipped {
+    pub pressed: Pressed,
+    pub replayed: Result<Replayed, Refusal>,
 }
 
-// What an office runs before it ships a sheet: presses it, and replays what was written in so many slots.
+// What an office runs before it ships a sheet: presses it, and replays what was written in so many slots. Where the press refuses, nothing is tried.
 pub fn press_and_replay(
     plan: Plan,
     sheet: &[u8],
@@ -27,19 +26,14 @@ pub fn press_and_replay(
     out: &mut [u8],
     marks: &mut [u8],
     slots: usize,
-) -> Shipment
+) -> Result<Shipped, Refusal>
     ensures answer { said_of_shipment result ≡ ship plan (call sheet.now rules.now out.old marks.old) slots }
     ensures out { out.new ≡ (press plan (call sheet.now rules.now out.old marks.old)).out }
     ensures marks { marks.new ≡ (press plan (call sheet.now rules.now out.old marks.old)).marks }
 {
-    let answer = press::press(plan, sheet, rules, out, marks);
-    match answer {
-        PressAnswer::Refused(why, k) => Shipment::Refused(why, k),
-        PressAnswer::Accepted(pressed) => {
-            let edition = plan.edition;
-            let end = edition.bytes_of(usize::from(pressed.records));
-            let replayed = replay::own::replay_in(edition, &out[..end], rules, slots);
-            Shipment::Tried(pressed, replayed)
-        }
-    }
+    let pressed = press::press(plan, sheet, rules, out, marks)?;
+    let edition = plan.edition;
+    let end = edition.bytes_of(usize::from(pressed.records));
+    let replayed = replay::own::replay_in(edition, &out[..end], rules, slots);
+    Ok(Shipped { pressed, replayed })
 }
