@@ -1,11 +1,8 @@
 -- Nothing else satisfies the promises: what an answer, a tally and a row say is said by no other.
 use Rattle.std.proofs.Common.{Err, Ok}
-use Rattle.std.specs.Prelude.{⊤}
-use Rattle.std.specs.declared.result.Result.{Result}
 use mathlib.Core.Path.{◌≡◌, sym, ap, ◌∙◌}
 use mathlib.Core.List.{List}
 use Rattle.clause.proofs.Fits.{literals_of-injective}
-use Rattle.sheet.specs.declared.Refusal.{Refusal}
 use Rattle.sheet.specs.Reasons.{number_of}
 use Rattle.sheet.proofs.Reasons.{number_of-injective}
 use Rattle.tally.specs.Said.{tally_of}
@@ -13,13 +10,11 @@ use Rattle.replay_spec.specs.Step.{state, Stepped, stepped}
 use Rattle.replay_spec.specs.Replay.{Result as RunResult, Outcome, outcome}
 use Rattle.replay_slots.specs.declared.Slot.{Slot as CodeSlot}
 use Rattle.tally.specs.declared.Tally.{Tally as CodeTally}
-use Rattle.replay_slots.specs.declared.Untaken.{Untaken}
-use Rattle.replay_slots.specs.Said.{row_of, RowFits, said_of_step}
-use Rattle.replay_answer.specs.declared.Replayed.{Replayed}
-use Rattle.replay_answer.specs.Answers.{result_of, said, AnswerFits}
+use Rattle.replay_slots.specs.Said.{StepAnswer, row_of, RowFits, said_of_step}
+use Rattle.replay_answer.specs.Answers.{ReplayAnswer, result_of, said, AnswerFits}
 pub use Rattle.replay_slots.proofs.Unique.{said_of_step-injective, tally_of-injective, row_of-injective}
 
-pub said-injective : (r₁ r₂ : Result Replayed Refusal) → AnswerFits r₁ → AnswerFits r₂ → said r₁ ≡ said r₂ → r₁ ≡ r₂
+pub said-injective : (r₁ r₂ : ReplayAnswer) → AnswerFits r₁ → AnswerFits r₂ → said r₁ ≡ said r₂ → r₁ ≡ r₂
 unfolding said
 said-injective (Ok a) (Ok b) f g e =
     let same : result_of a ≡ result_of b = cc in
@@ -33,7 +28,7 @@ said-injective (Err r) (Err q) f g e =
     λ i. Err (record { why = number_of-injective r.why q.why n i; at = record { 0 = k i } })
 
 -- two answers, tallies and rows that a step's promise admits are one
-pub step-unique : (o : Stepped) (r₁ r₂ : Result ⊤ Untaken) (t₁ t₂ : CodeTally) (ys zs : List CodeSlot)
+pub step-unique : (o : Stepped) (r₁ r₂ : StepAnswer) (t₁ t₂ : CodeTally) (ys zs : List CodeSlot)
     → RowFits ys × (stepped (said_of_step r₁) (state (tally_of t₁) (row_of ys)) ≡ o)
     → RowFits zs × (stepped (said_of_step r₂) (state (tally_of t₂) (row_of zs)) ≡ o)
     → (r₁ ≡ r₂) × (t₁ ≡ t₂) × (ys ≡ zs)
@@ -45,7 +40,7 @@ step-unique o r₁ r₂ t₁ t₂ ys zs p q =
     )
 
 -- and two answers and rows that the replay's promise admits
-pub replay-unique : (o : Outcome) (r₁ r₂ : Result Replayed Refusal) (ys zs : List CodeSlot)
+pub replay-unique : (o : Outcome) (r₁ r₂ : ReplayAnswer) (ys zs : List CodeSlot)
     → AnswerFits r₁ × RowFits ys × (outcome (said r₁) (row_of ys) ≡ o)
     → AnswerFits r₂ × RowFits zs × (outcome (said r₂) (row_of zs) ≡ o)
     → (r₁ ≡ r₂) × (ys ≡ zs)

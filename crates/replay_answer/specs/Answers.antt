@@ -12,12 +12,15 @@ use Rattle.replay_answer.specs.declared.Replayed.{Replayed}
 abbrev pub result_of : Replayed → Result
 result_of r = record { conclusion = literals_of r.conclusion; nodes = r.nodes; steps = r.steps; peak = r.peak }
 
-unfoldable pub said : CodeResult Replayed Refusal → Answer
+abbrev pub ReplayAnswer : Type 0
+ReplayAnswer = CodeResult Replayed Refusal
+
+unfoldable pub said : ReplayAnswer → Answer
 said (Ok r) = accepted (result_of r)
 said (Err r) = refused (number_of r.why) r.at.0
 
 -- each word of it is one that the machine can hold
-abbrev pub AnswerFits : CodeResult Replayed Refusal → Type 0
+abbrev pub AnswerFits : ReplayAnswer → Type 0
 AnswerFits (Ok r) = ClauseFits r.conclusion
 AnswerFits (Err r) = Unit {0}
 

@@ -1,7 +1,5 @@
 -- What a step's answer, a tally, a slot and a row say is said by no other.
 use Rattle.std.proofs.Common.{Err, Ok}
-use Rattle.std.specs.Prelude.{⊤}
-use Rattle.std.specs.declared.result.Result.{Result}
 use mathlib.Core.Path.{◌≡◌, refl, ap, ap₂}
 use mathlib.Core.List.{List, [], ◌∷◌}
 use Rattle.clause.proofs.Fits.{literals_of-injective}
@@ -11,11 +9,10 @@ use Rattle.tally.specs.declared.Tally.{Tally as CodeTally}
 use Rattle.tally.specs.Said.{tally_of}
 use Rattle.replay_spec.specs.Slots.{Slot}
 use Rattle.replay_slots.specs.declared.Slot.{Slot as CodeSlot}
-use Rattle.replay_slots.specs.declared.Untaken.{Untaken}
 use Rattle.replay_slots.specs.declared.Untaken.TheVariants as U
-use Rattle.replay_slots.specs.Said.{slot_of, row_of, SlotFits, RowFits, said_of_step}
+use Rattle.replay_slots.specs.Said.{StepAnswer, slot_of, row_of, SlotFits, RowFits, said_of_step}
 
-pub said_of_step-injective : (r₁ r₂ : Result ⊤ Untaken) → said_of_step r₁ ≡ said_of_step r₂ → r₁ ≡ r₂
+pub said_of_step-injective : (r₁ r₂ : StepAnswer) → said_of_step r₁ ≡ said_of_step r₂ → r₁ ≡ r₂
 unfolding said_of_step
 said_of_step-injective (Ok a) (Ok b) e = refl
 said_of_step-injective (Ok a) (Err (U.Refused r)) e = cc

@@ -52,7 +52,10 @@ abbrev pub decided_of : Tally → Result Taken Reason → Decided
 decided_of t (Ok d) = record { verdict = Ok tt; tally = tally_of d.tally; place = place_of d.place }
 decided_of t (Err why) = record { verdict = Err why; tally = t; place = nowhere }
 
-unfoldable pub said_of_step : Result ⊤ Untaken → Step
+abbrev pub StepAnswer : Type 0
+StepAnswer = Result ⊤ Untaken
+
+unfoldable pub said_of_step : StepAnswer → Step
 said_of_step (Ok tt) = taken
 said_of_step (Err (U.Refused r)) = refused (number_of r.why) r.at.0
 said_of_step (Err U.Unfit) = unfit
