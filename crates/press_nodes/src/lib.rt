@@ -2,7 +2,6 @@
 #![tactic(auto)]
 
 pub mod clause_table;
-pub mod clear;
 pub mod fate;
 pub mod link;
 pub mod node;
