@@ -3,11 +3,10 @@ use mathlib.Core.Path.{◌≡◌, refl, sym, ap, ap₂, ◌∙◌}
 use mathlib.Core.List.{List, [], ◌∷◌, ◌++◌, append_assoc, append-nil}
 use Prim.Native.Nat.{ℕ, zero, suc, ◌+◌, ◌*◌, ◌/◌, ◌%◌, ◌^◌, ◌≤◌, ◌<◌}
 use native.Mathlib.Nat.{add-zero, zero-add, suc-add, add_assoc, pow-suc, mul_comm, mul_assoc, div-one, mod-one, div-div-eq-div-mul, mod-eq_of_lt, one-le-pow, zero-lt-suc}
-use native.Mathlib.Numerals.{add-one}
 use native.Mathlib.Omega.{arith}
 use lib.Arith.{mod-mul}
-use lib.ListN.{length, get_or, set, take, drop, length-append, length-drop, take-append-drop}
-use lib.Seq.{take-add, take_at, drop_at, drop-drop, drop-append-add, set_split, length-take-le, get_or-take, get_or-drop, append_snoc}
+use lib.ListN.{length, get_or, take, drop, length-append, length-drop, take-append-drop}
+use lib.Seq.{take-add, take_at, drop_at, drop-drop, drop-append-add, length-take-le, get_or-take, get_or-drop}
 use Rattle.base.specs.Bytes.{value, bytes, part, value_at, put}
 
 -- ---- the number that bytes say
@@ -139,31 +138,6 @@ part-put d at bs n e h =
 pub value_at-put : (d : List ℕ) (at n w : ℕ) → at ≤ length d → w < 256 ^ n → value_at n (put d at (bytes n w)) at ≡ w
 unfolding value_at part
 value_at-put d at n w h g = ap value (part-put d at (bytes n w) n (length-bytes n w) h) ∙ value-bytes-small n w g
-
--- ---- what the code's stores come to
-
-pub set-put : (d : List ℕ) (at b : ℕ) → at < length d → set d at b ≡ put d at (b ∷ [])
-unfolding put
-set-put d at b h =
-    set_split d at b h
-    ∙ sym (append_snoc (take at d) b (drop (suc at) d))
-    ∙ ap (λ (k : ℕ). take at d ++ (b ∷ []) ++ drop k d) (sym (add-one at))
-
-set_more : (d : List ℕ) (at : ℕ) (xs : List ℕ) (n b : ℕ) → n ≡ at + length xs → n < length d → set (put d at xs) n b ≡ put d at (xs ++ (b ∷ []))
-set_more d at xs n b e h =
-    set-put (put d at xs) n b (rw (length-put d at xs (omega arith)) h) ∙ put-put d at xs (b ∷ []) n e (omega arith)
-
-pub two-stores : (d : List ℕ) (at x y : ℕ) → at + 2 ≤ length d → set (set d at x) (at + 1) y ≡ put d at (x ∷ y ∷ [])
-two-stores d at x y h = ap (λ (l : List ℕ). set l (at + 1) y) (set-put d at x (omega arith)) ∙ set_more d at (x ∷ []) (at + 1) y refl (omega arith)
-
--- two calls that store a number's low bytes and its high bytes
-pub halves : (m n : ℕ) (d : List ℕ) (at w : ℕ) (l e : List ℕ) → at + m ≤ length d
-    → l ≡ put d at (bytes m (w % 256 ^ m)) → e ≡ put l (at + m) (bytes n (w / 256 ^ m)) → e ≡ put d at (bytes (m + n) w)
-halves m n d at w l e h p q =
-    q
-    ∙ ap (λ (k : List ℕ). put k (at + m) (bytes n (w / 256 ^ m))) (p ∙ ap (put d at) (bytes-mod m w))
-    ∙ put-put d at (bytes m w) (bytes n (w / 256 ^ m)) (at + m) (ap (λ (k : ℕ). at + k) (sym (length-bytes m w))) h
-    ∙ ap (put d at) (sym (bytes-add m n w))
 
 -- two calls, of which the second puts where the first ended
 pub then : (d : List ℕ) (at : ℕ) (xs ys : List ℕ) (n : ℕ) {l m : List ℕ}
