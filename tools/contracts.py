@@ -41,7 +41,7 @@ ALLOWED = [
     ("clause/specs/Denote.antt", "word = 64", "the digits of a machine word; the crate stands below the limits"),
     ("clause/src/lib.rt", "WORD: u8 = 64", "the same in the code"),
     ("sheet/specs/Reasons.antt", "number_of NotHeld = 16", "the number of a refusal"),
-    ("sheet/src/lib.rt", "Reason::NotHeld => 16", "the number of a refusal"),
+    ("sheet/src/lib.rt", "NotHeld = 16", "the number of a refusal"),
     ("demands/specs/Starred.antt", "", "worked sheets, byte by byte"),
     ("demands/specs/Telling.antt", "", "worked sheets, byte by byte"),
     ("demands/specs/Wide.antt", "", "worked sheets, byte by byte"),
