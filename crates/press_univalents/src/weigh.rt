@@ -30,6 +30,7 @@ fn lowerable(l: Literal, c: Clause, owed: Clause) -> bool
 }
 
 // Node n, which is rebuilt, and whose two or more uses are all on l: it is lowered or stays. Answers what is owed then.
+#[tactic(auto, unfolding(press_spec::specs::Univalents::weigh, press_spec::specs::Lower::lower))]
 fn weigh_often(
     clauses: &[Clause],
     stand_ins: &[u16],
