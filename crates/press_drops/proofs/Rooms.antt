@@ -19,7 +19,7 @@ use Rattle.sheet.proofs.RecordBytes.{length-record_bytes_of}
 use Rattle.press_spec.specs.Links.{leaf, link, links, link_at}
 use Rattle.press_spec.specs.Drops.{drops_after, with_drops}
 use Rattle.press_spec.proofs.Nodes.{nodes-from, link-at}
-use Rattle.press_last.specs.LastUses.{used_after, drop_by}
+use Rattle.press_last.specs.LastUses.{drop_by}
 use Rattle.press_last.proofs.Joined.{Joined, joined-inside, drops_same, drops-two}
 use Rattle.press_emit.specs.Emission.{Emission, emit_record, emit_all, Roomy}
 use Rattle.tally.specs.Tally.{counted}
@@ -69,21 +69,6 @@ pub roomy-rest : (xs ys : List Record) (e : Emission) → Roomy (xs ++ ys) e →
 unfolding emit_all
 roomy-rest [] ys e h = h
 roomy-rest (x ∷ xs) ys e h = roomy-rest xs ys (emit_record x e) (roomy-next x (xs ++ ys) e h)
-
--- ---- the drop of n, or none
-
-module _ (last : List ℕ) (k n : ℕ) (e : Emission) where
-  pub last-kept : true ≡ used_after last k n → e ≡ emit_all (drop_by last k n) e
-  unfolding emit_all drop_by
-  last-kept h = rw (← h)
-
-  pub last-dropped : false ≡ used_after last k n → emit_record (drop n) e ≡ emit_all (drop_by last k n) e
-  unfolding emit_all drop_by
-  last-dropped h = rw (← h)
-
-  pub last-room : false ≡ used_after last k n → Roomy (drop_by last k n) e → Roomy (drop n ∷ []) e
-  unfolding drop_by
-  last-room h r = rw (← h) at r
 
 -- ---- two parents, or one that is named twice
 

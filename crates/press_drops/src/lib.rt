@@ -28,6 +28,7 @@ struct Ordered<'a> {
 
 impl Ordered<'_> {
     // The drop of n, which node k names, unless a later node names it.
+    #[tactic(auto, unfolding(sheet::specs::Denote::record_of, press_last::specs::LastUses::drop_by, press_emit::specs::Emission::emit_all))]
     fn emit_last(&self, k: NodeNo, n: NodeNo, emitted: &mut Emitted)
         requires n_in_bounds { n.0 < length self.now.last.now }
         requires roomy { Roomy (drop_by (numbers_in self.now.last.now) k.0 n.0) (emission_of emitted.old) }

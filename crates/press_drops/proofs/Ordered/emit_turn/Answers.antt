@@ -1,6 +1,6 @@
 use mathlib.Core.Path.{◌≡◌, sym, ap, ◌∙◌}
 use mathlib.Core.List.{List}
-use Prim.Native.Nat.{ℕ, ◌<◌, min, max}
+use Prim.Native.Nat.{ℕ, ◌<◌}
 use Rattle.std.proofs.Common.{arith}
 use Rattle.std.proofs.lemmas.Grind.{common_steps}
 use Rattle.std.proofs.lemmas.Bool.Decides.{nat_tests}
@@ -49,42 +49,33 @@ returns-in_default-clause-written c =
 pub emit_last-requires-clause-n_in_bounds : goal.emit_last-requires-clause-n_in_bounds
 emit_last-requires-clause-n_in_bounds c =
     let f = joined _ _ _ _ _ _ _ _ _ _ _ c.requires.nodes c.requires.k_in_bounds c.requires.roomy c.link_at.ensures c.in-Join.is c.node_at-record.ensures c.emit_record.ensures.written in
-    let lo : c.min-low.result.0 ≡ min c.in-Join.left.0 c.in-Join.right.0 = grind (arith, common_steps, nat_tests) in
-    rw (← numbers-length c.args.self.now.last.now) (low-inside f lo)
+    rw (← numbers-length c.args.self.now.last.now) (low-inside f (grind (arith, common_steps, nat_tests)))
 
 pub emit_last-requires-clause-roomy : goal.emit_last-requires-clause-roomy
 emit_last-requires-clause-roomy c =
     let f = joined _ _ _ _ _ _ _ _ _ _ _ c.requires.nodes c.requires.k_in_bounds c.requires.roomy c.link_at.ensures c.in-Join.is c.node_at-record.ensures c.emit_record.ensures.written in
-    let lo : c.min-low.result.0 ≡ min c.in-Join.left.0 c.in-Join.right.0 = grind (arith, common_steps, nat_tests) in
-    low-room f lo
+    low-room f (grind (arith, common_steps, nat_tests))
 
 pub emit_last-requires-then-ne-clause-n_in_bounds : goal.emit_last-requires-then-ne-clause-n_in_bounds
 emit_last-requires-then-ne-clause-n_in_bounds c =
     let f = joined _ _ _ _ _ _ _ _ _ _ _ c.requires.nodes c.requires.k_in_bounds c.requires.roomy c.link_at.ensures c.in-Join.is c.node_at-record.ensures c.emit_record.ensures.written in
-    let lo : c.min-low.result.0 ≡ min c.in-Join.left.0 c.in-Join.right.0 = grind (arith, common_steps, nat_tests) in
-    let hi : c.max-high.result.0 ≡ max c.in-Join.left.0 c.in-Join.right.0 = grind (arith, common_steps, nat_tests) in
     let q = differ _ _ c.if-ne.ensures in
-    rw (← numbers-length c.args.self.now.last.now) (high-inside f lo hi q)
+    rw (← numbers-length c.args.self.now.last.now) (high-inside f {low = c.min-low.result.0} (grind (arith, common_steps, nat_tests)) (grind (arith, common_steps, nat_tests)) q)
 
 pub emit_last-requires-then-ne-clause-roomy : goal.emit_last-requires-then-ne-clause-roomy
 emit_last-requires-then-ne-clause-roomy c =
     let f = joined _ _ _ _ _ _ _ _ _ _ _ c.requires.nodes c.requires.k_in_bounds c.requires.roomy c.link_at.ensures c.in-Join.is c.node_at-record.ensures c.emit_record.ensures.written in
-    let lo : c.min-low.result.0 ≡ min c.in-Join.left.0 c.in-Join.right.0 = grind (arith, common_steps, nat_tests) in
-    let hi : c.max-high.result.0 ≡ max c.in-Join.left.0 c.in-Join.right.0 = grind (arith, common_steps, nat_tests) in
     let q = differ _ _ c.if-ne.ensures in
-    high-room f lo hi q c.emit_last.ensures.written
+    high-room f (grind (arith, common_steps, nat_tests)) (grind (arith, common_steps, nat_tests)) q c.emit_last.ensures.written
 
 pub returns-then-ne-clause-written : goal.returns-then-ne-clause-written
 returns-then-ne-clause-written c =
     let f = joined _ _ _ _ _ _ _ _ _ _ _ c.requires.nodes c.requires.k_in_bounds c.requires.roomy c.link_at.ensures c.in-Join.is c.node_at-record.ensures c.emit_record.ensures.written in
-    let lo : c.min-low.result.0 ≡ min c.in-Join.left.0 c.in-Join.right.0 = grind (arith, common_steps, nat_tests) in
-    let hi : c.max-high.result.0 ≡ max c.in-Join.left.0 c.in-Join.right.0 = grind (arith, common_steps, nat_tests) in
     let q = differ _ _ c.if-ne.ensures in
-    turn_two f lo hi q c.emit_last.ensures.written c.emit_last-then-ne.ensures.written
+    turn_two f (grind (arith, common_steps, nat_tests)) (grind (arith, common_steps, nat_tests)) q c.emit_last.ensures.written c.emit_last-then-ne.ensures.written
 
 pub returns-else-ne-clause-written : goal.returns-else-ne-clause-written
 returns-else-ne-clause-written c =
     let f = joined _ _ _ _ _ _ _ _ _ _ _ c.requires.nodes c.requires.k_in_bounds c.requires.roomy c.link_at.ensures c.in-Join.is c.node_at-record.ensures c.emit_record.ensures.written in
-    let lo : c.min-low.result.0 ≡ min c.in-Join.left.0 c.in-Join.right.0 = grind (arith, common_steps, nat_tests) in
     let q = alike _ _ c.if-ne.ensures in
-    turn-same f lo q c.emit_last.ensures.written
+    turn-same f (grind (arith, common_steps, nat_tests)) q c.emit_last.ensures.written
