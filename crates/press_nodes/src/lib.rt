@@ -1,4 +1,5 @@
-// The press's tables: a link, a clause and a fate for each node.
+// The press's tables: a link, a clause and a fate for each node. They stand apart, since trim, uses, orders and marks are lent links alone; and in no
+// struct of lent slices, since each function that is lent such a struct would have to say of each slice that it stays the one that was lent.
 #![tactic(auto)]
 
 pub mod clause_table;

@@ -40,6 +40,7 @@ fn way_of(cut: Option<Side>, p: u8, l: Clause, r: Clause) -> Way
     }
 }
 
+// The stand-in of node n. The table holds numbers, as the list of the definition `built` does.
 pub fn stand_in(stand_ins: &[u16], n: NodeNo) -> NodeNo
     requires { n.0 < length stand_ins.now }
     ensures { result.0 ≡ get_or stand_ins.now n.0 0 }

@@ -27,7 +27,7 @@ fn trim_turn(links: &[Link], n: NodeNo, kept: &mut [u8])
     kept[r] = 1;
 }
 
-// 1 for each node that `from` reaches, 0 for each other.
+// 1 for each node that `from` reaches, 0 for each other: the list of the definition `trim`, so no `bool`.
 pub fn trim(links: &[Link], from: NodeNo, kept: &mut [u8])
     requires links { Links links.now }
     requires kept_len { (length kept.old ≡ length links.now) × (from.0 < length links.now) }
