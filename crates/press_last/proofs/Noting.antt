@@ -23,13 +23,13 @@ some-number None = refl
 some-number (Some n) = ne_eqb (suc n.0) 0 (omega arith)
 
 module _ (last : List (Option NodeNo)) (i n : NodeNo) (at : ℕ) (here : at ≡ n.0) (inside : n.0 < length last) where
-  pub note-new : is_some (get_or last at None) ≡ false → numbers_in (set last at (Some i)) ≡ note_use i.0 n.0 (numbers_in last)
+  pub note_new : is_some (get_or last at None) ≡ false → numbers_in (set last at (Some i)) ≡ note_use i.0 n.0 (numbers_in last)
   unfolding note_use number_in
-  note-new e = rw (← numbers-at last at n.0 None here inside, some-number (get_or last at None), e) (simp unary_clauses (numbers-set last at n.0 (Some i) here))
+  note_new e = rw (← numbers-at last at n.0 None here inside, some-number (get_or last at None), e) (simp unary_clauses (numbers-set last at n.0 (Some i) here))
 
-  pub note-stays : is_some (get_or last at None) ≡ true → numbers_in last ≡ note_use i.0 n.0 (numbers_in last)
+  pub note_stays : is_some (get_or last at None) ≡ true → numbers_in last ≡ note_use i.0 n.0 (numbers_in last)
   unfolding note_use
-  note-stays e = rw (← numbers-at last at n.0 None here inside, some-number (get_or last at None), e) refl
+  note_stays e = rw (← numbers-at last at n.0 None here inside, some-number (get_or last at None), e) refl
 
 -- the entry of n is a node after k
 after-entry : (k : NodeNo) (x : Option NodeNo) (result : Bool) → MatchOption x (result ≡ false) (λ (m : NodeNo). result ≡ ltb k.0 m.0) → result ≡ ltb (k.0 + 1) (number_in x)

@@ -12,6 +12,7 @@ use press_nodes::link::Link;
 use sheet::NodeNo;
 
 // Node i names n: that is its last use, unless one is noted already, since the walk comes from the end.
+#[tactic(auto, using(crate::proofs::Noting::note_new, crate::proofs::Noting::note_stays))]
 fn note_use(i: NodeNo, n: NodeNo, last: &mut [Option<NodeNo>])
     requires { n.0 < length last.old }
     ensures { numbers_in last.new ≡ note_use i.0 n.0 (numbers_in last.old) }
