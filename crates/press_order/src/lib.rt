@@ -5,6 +5,7 @@
 ghost use Rattle.std.specs.Prelude.{◌≡◌, cond, List, ◌∷◌, ℕ, ◌<◌, length, get_or};
 ghost use Rattle.sheet.specs.Editions.{capacity};
 ghost use Rattle.press_nodes.specs.Tables.{links_in, Links};
+ghost use Rattle.press_nodes.specs.Numbers.{numbers_in};
 ghost use Rattle.press_spec.specs.Order.{right_first, place, order_from};
 ghost use Rattle.press_order.specs.Placing.{Numbered, Stands, Placing};
 
@@ -42,22 +43,26 @@ fn in_turn(counts: &[u16], left: NodeNo, right: NodeNo) -> Premises
 }
 
 // Node n comes next in the order, which has `count` nodes so far: how many it has then.
-pub fn put_next(n: NodeNo, numbers: &mut [u16], count: u16) -> u16
+pub fn put_next(n: NodeNo, numbers: &mut [Option<NodeNo>], count: u16) -> u16
     requires { (n.0 < length numbers.old) × (count < capacity) }
-    ensures { (order : List ℕ) → Stands numbers.old count order → Stands numbers.new result (n.0 ∷ order) }
+    ensures { (order : List ℕ) → Stands (numbers_in numbers.old) count order → Stands (numbers_in numbers.new) result (n.0 ∷ order) }
 {
-    let i = n.index();
-    numbers[i] = count + 1;
+    numbers[n.index()] = Some(NodeNo(count));
     count + 1
 }
 
 // Places node n, after its premises. "A parent's number in step 4 is always smaller than its child's": the node number falls at each call.
-fn place(links: &[Link], counts: &[u16], n: NodeNo, numbers: &mut [u16], count: u16) -> u16
-    requires { Placing links.now counts.now numbers.old n.0 count }
-    ensures { (order : List ℕ) (d : ℕ) → Stands numbers.old count order → n.0 < d → Stands numbers.new result (place (links_in links.now) (λ m. get_or counts.now m 0) d n.0 order) }
+fn place(
+    links: &[Link],
+    counts: &[u16],
+    n: NodeNo,
+    numbers: &mut [Option<NodeNo>],
+    count: u16,
+) -> u16
+    requires { Placing links.now counts.now (numbers_in numbers.old) n.0 count }
+    ensures { (order : List ℕ) (d : ℕ) → Stands (numbers_in numbers.old) count order → n.0 < d → Stands (numbers_in numbers.new) result (place (links_in links.now) (λ m. get_or counts.now m 0) d n.0 order) }
 {
-    let i = n.index();
-    if numbers[i] != 0 {
+    if numbers[n.index()].is_some() {
         return count;
     }
     let found = link::link_at(links, n);
@@ -71,15 +76,15 @@ fn place(links: &[Link], counts: &[u16], n: NodeNo, numbers: &mut [u16], count: 
 }
 
 // 4 and 5: the places of what a node reaches, by its uses there, and how many there are.
-pub fn order_from(links: &[Link], from: NodeNo, numbers: &mut [u16]) -> u16
+pub fn order_from(links: &[Link], from: NodeNo, numbers: &mut [Option<NodeNo>]) -> u16
     requires links { Links links.now }
     requires numbers_len { (length numbers.old ≡ length links.now) × (from.0 < length links.now) }
-    ensures numbers { Numbered numbers.new (order_from (links_in links.now) from.0) }
+    ensures numbers { Numbered (numbers_in numbers.new) (order_from (links_in links.now) from.0) }
     ensures count { result ≡ length (order_from (links_in links.now) from.0) }
 {
     let mut counts = [0u16; CAPACITY];
     let n = links.len();
     uses::uses_from(links, from, &mut counts[..n]);
-    numbers.fill(0);
+    numbers.fill(None);
     place(links, &counts[..n], from, numbers, 0)
 }
