@@ -1,22 +1,26 @@
 -- A node goes to the front of its parent's chain; and which node is a parent.
 use Prim.Native.Nat.{ℕ, suc, ◌+◌, ◌-◌, ◌≤◌, ◌<◌}
-use mathlib.Core.Path.{◌≡◌, sym, ap, ◌∙◌}
+use mathlib.Core.Path.{◌≡◌, refl, sym, ap, ◌∙◌}
 use mathlib.Core.List.{List}
 use native.Mathlib.Omega.{arith}
 use native.Mathlib.Decide.{ℕ_discrete}
 use lib.ListN.{length, get_or, set, replicate}
 use lib.Seq.{get_or-set_same, get_or-set_other}
+use Rattle.std.proofs.Common.{Option, None, Some}
 use Rattle.base.proofs.Lists.{get_d-blank}
+use Rattle.sheet.specs.declared.NodeNo.{NodeNo}
 use Rattle.press_spec.specs.Links.{Link, leaf, join}
 use Rattle.press_nodes.specs.declared.fate.Side.{Side}
 use Rattle.press_nodes.specs.declared.fate.Side.TheVariants.{Left, Right}
+use Rattle.press_nodes.specs.Numbers.{number_in, numbers_in}
+use Rattle.press_nodes.proofs.Numbers.{numbers-length, numbers-set, numbers-at, numbers-none, some-suc}
 use Rattle.press_users.specs.Chains.{parent_on, Chaining}
 
 module _ (p : ℕ → ℕ) where
-  pub none-chained : (old heads nexts : List ℕ) → heads ≡ replicate (length old) 0 → Chaining p 0 heads nexts
+  pub none-chained : (old heads nexts : List (Option NodeNo)) → heads ≡ replicate (length old) None → Chaining p 0 (numbers_in heads) (numbers_in nexts)
   none-chained old heads nexts e = record {
     newest = λ m h o. absurd (omega arith);
-    head = λ q h. absurd (omega (arith, ap (λ (t : List ℕ). get_or t q 0) e, get_d-blank {A = ℕ} (length old) q 0));
+    head = λ q h. absurd (omega (arith, ap (λ (t : List ℕ). get_or t q 0) (ap numbers_in e ∙ numbers-none (length old)), get_d-blank {A = ℕ} (length old) q 0));
     older = λ m k l h. absurd (omega arith);
     next = λ m h. absurd (omega arith);
   }
@@ -85,6 +89,16 @@ module _ (p : ℕ → ℕ) where
 
       pub chained : Chaining p (k + 1) (set heads q (k + 1)) (set nexts k (get_or heads q 0))
       chained = record { newest = newest'; head = head'; older = older'; next = next' }
+
+  -- as the tables have it
+  module _ (heads nexts : List (Option NodeNo)) {n parent : NodeNo} {i q : ℕ} (at-i : i ≡ n.0) (at-q : q ≡ parent.0) where
+    pub front-chained : Chaining p n.0 (numbers_in heads) (numbers_in nexts) → p n.0 ≡ suc parent.0 → parent.0 < length heads → n.0 < length nexts
+        → Chaining p (n.0 + 1) (numbers_in (set heads q (Some n))) (numbers_in (set nexts i (get_or heads q None)))
+    front-chained c mine inside room =
+        let next : n.0 + 1 ≡ suc n.0 = omega arith in
+        let front : number_in (Some n) ≡ n.0 + 1 = some-suc (Some n) n refl ∙ sym next in
+        rw (numbers-set heads q parent.0 (Some n) at-q, front, numbers-set nexts i n.0 (get_or heads q None) at-i, numbers-at heads q parent.0 None at-q inside)
+        (chained n.0 c parent.0 mine (rw (numbers-length heads) inside) (rw (numbers-length nexts) room))
 
 -- ---- the parent on a side
 

@@ -4,6 +4,7 @@
 ghost use Rattle.std.specs.Prelude.{◌≡◌, ◌+◌, ◌<◌, length, suc, IfSome, IfNone};
 ghost use Rattle.press_spec.specs.Links.{link_at};
 ghost use Rattle.press_nodes.specs.Tables.{links_in, Links};
+ghost use Rattle.press_nodes.specs.Numbers.{numbers_in};
 ghost use Rattle.press_users.specs.Chains.{parent_on, Chain};
 
 use press_nodes::fate::Side;
@@ -28,28 +29,33 @@ fn parent_on(links: &[Link], side: Side, n: NodeNo) -> Option<NodeNo>
 }
 
 // Node n goes to the front of its parent's chain.
-fn chain_turn(links: &[Link], side: Side, n: NodeNo, heads: &mut [u16], nexts: &mut [u16])
+fn chain_turn(
+    links: &[Link],
+    side: Side,
+    n: NodeNo,
+    heads: &mut [Option<NodeNo>],
+    nexts: &mut [Option<NodeNo>],
+)
     requires links { Links links.now }
     requires heads_len { (length heads.old ≡ length links.now) × (length nexts.old ≡ length links.now) × (n.0 < length links.now) }
-    requires chain { Chain side (links_in links.now) n.0 heads.old nexts.old }
-    ensures { Chain side (links_in links.now) (n.0 + 1) heads.new nexts.new }
+    requires chain { Chain side (links_in links.now) n.0 (numbers_in heads.old) (numbers_in nexts.old) }
+    ensures { Chain side (links_in links.now) (n.0 + 1) (numbers_in heads.new) (numbers_in nexts.new) }
 {
     let Some(parent) = parent_on(links, side, n) else {
         return;
     };
     let q = parent.index();
-    let i = n.index();
-    nexts[i] = heads[q];
-    heads[q] = n.0 + 1;
+    nexts[n.index()] = heads[q];
+    heads[q] = Some(n);
 }
 
-// For each node one more than the newest step that names it on this side, and for each step one more than the next older one that names the same node.
-pub fn chain(links: &[Link], side: Side, heads: &mut [u16], nexts: &mut [u16])
+// For each node the newest step that names it on this side, and for each step the next older one that names the same node.
+pub fn chain(links: &[Link], side: Side, heads: &mut [Option<NodeNo>], nexts: &mut [Option<NodeNo>])
     requires links { Links links.now }
     requires heads_len { (length heads.old ≡ length links.now) × (length nexts.old ≡ length links.now) }
-    ensures { Chain side (links_in links.now) (length links.now) heads.new nexts.new }
+    ensures { Chain side (links_in links.now) (length links.now) (numbers_in heads.new) (numbers_in nexts.new) }
 {
-    heads.fill(0);
+    heads.fill(None);
     for n in 0..links.len() {
         chain_turn(links, side, NodeNo(n as u16), heads, nexts);
     }
