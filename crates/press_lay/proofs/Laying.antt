@@ -1,13 +1,15 @@
 -- Laying out an order: a link at its place, one turn, and every turn. Of laid links the laws of laid nodes are cited, with no clauses.
 use Prim.Native.Nat.{ℕ, suc, ◌+◌, ◌≤◌, ◌<◌}
 use mathlib.Core.Path.{◌≡◌, refl, sym, ap, ap₂, ◌∙◌}
-use mathlib.Core.Bool.{true}
+use mathlib.Core.Bool.{Bool, true, false}
 use mathlib.Core.Logic.{◌≢◌}
 use mathlib.Core.List.{List, [], ◌∷◌, ◌++◌, map-append}
 use native.Mathlib.Omega.{arith}
 use native.Mathlib.Decide.{ℕ_discrete, dec_lt}
 use lib.ListN.{length, get_or, set, length-map, get_or-eq_default}
 use lib.Seq.{get_or-set_same, get_or-set_other}
+use Rattle.std.proofs.Common.{Option, None, Some, is_some}
+use Rattle.sheet.specs.declared.NodeNo.{NodeNo}
 use Rattle.clause.specs.Clauses.{Literals}
 use Rattle.sheet.specs.Records.{Node, given, step, node_at}
 use Rattle.clause.specs.declared.Clause.{Clause}
@@ -18,7 +20,9 @@ use Rattle.press_spec.specs.Order.{placed, number_in, renumber, laid, InOrder}
 use Rattle.press_order.specs.Placing.{Numbered, Orderly}
 use Rattle.press_lay.specs.Laying.{relink, laid_links, HasPlace, place_in}
 use Rattle.press_nodes.proofs.Tables.{links-length, changed-there, changed-elsewhere, links-nodes, nodes-length, nodes-at}
-use Rattle.press_order.proofs.Placing.{by_place, has-place}
+use Rattle.press_nodes.specs.Numbers.{numbers_in}
+use Rattle.press_nodes.proofs.Numbers.{numbers-length}
+use Rattle.press_order.proofs.Placing.{by_place, has-place, entry-none, entry-is}
 use Rattle.press_lay.proofs.Arranged.{laid-sound}
 use Rattle.press_spec.proofs.Nodes.{link-at}
 use Rattle.press_spec.proofs.Ordered.{premises-placed}
@@ -28,6 +32,21 @@ use Rattle.press_spec.proofs.Laid.{number-below, number-once, laid-at, laid-whol
 
 pub inside : (t : List ℕ) (i : ℕ) → 1 ≤ get_or t i 0 → i < length t
 inside t i h = elim (dec_lt i (length t)) [ yes k ↦ k | no k ↦ absurd (omega (arith, get_or-eq_default {A = ℕ} t 0 {n = i} (omega arith))) ]
+
+pub entry-inside : (t : List (Option NodeNo)) (i : ℕ) → HasPlace (numbers_in t) i → i < length t
+entry-inside t i h = omega (arith, inside (numbers_in t) i h, numbers-length t)
+
+-- a node's new number, as the table has it
+module _ (t : List (Option NodeNo)) (n i : ℕ) (same : i ≡ n) (h : n < length t) where
+  pub some-place : HasPlace (numbers_in t) n → is_some (get_or t i None) ≡ true
+  some-place p = by (is_some (get_or t i None)) refl
+    where
+      by : (u : Bool) → u ≡ is_some (get_or t i None) → is_some (get_or t i None) ≡ true
+      by true e = sym e
+      by false e = absurd (omega (arith, entry-none t n i same h e))
+
+  pub place-is : (k : NodeNo) → get_or t i None ≡ Some k → k.0 ≡ place_in (numbers_in t) n
+  place-is k e = omega (arith, entry-is t n i same h k e)
 
 module _ (number : ℕ → ℕ) where
   pub relinks-leaf : (x : Link) {line : ℕ} → x ≡ leaf line → leaf line ≡ relink number x
@@ -78,7 +97,7 @@ module _ (numbers order : List ℕ) (numbered : Numbered numbers order) where
   has-number m q = by_place numbers order m numbered true q
 
   is-placed : (m : ℕ) → HasPlace numbers m → placed m order ≡ true
-  is-placed m p = has-place numbers order m numbered m refl (λ z. omega arith)
+  is-placed m p = has-place numbers order m numbered p
 
   pub fits : (n : ℕ) → get_or numbers n 0 ≤ length order
   fits n = elim (dec_lt 0 (get_or numbers n 0)) [
