@@ -7,6 +7,7 @@ ghost use Rattle.press_spec.specs.Order.{order_from};
 ghost use Rattle.press_spec.specs.Better.{better_of, better};
 ghost use Rattle.clause.specs.declared.Clause.{Clause};
 ghost use Rattle.press_nodes.specs.Tables.{links_in, nodes_in, Links};
+ghost use Rattle.press_nodes.specs.Numbers.{numbers_in};
 ghost use Rattle.press_order.specs.Placing.{Numbered, Orderly};
 ghost use Rattle.press_lay.specs.Laying.{laid_links, Laying};
 ghost use Rattle.press_peak.specs.Peaks.{peak_of_links};
@@ -24,11 +25,11 @@ pub struct Chosen {
 }
 
 // The peak of the order of so many nodes that stands in the table of numbers. It is a matter of the links, which are laid out for it alone.
-fn peak_by(links: &[Link], numbers: &[u16], nodes: u16) -> u16
+fn peak_by(links: &[Link], numbers: &[Option<NodeNo>], nodes: u16) -> u16
     requires links { Links links.now }
-    requires laying { Laying links.now numbers.now nodes }
+    requires laying { Laying links.now (numbers_in numbers.now) nodes }
     requires numbers_len { (length numbers.now ≡ length links.now) × (nodes ≤ most_nodes) }
-    ensures { (order : List ℕ) → Orderly links.now order → Numbered numbers.now order → length order ≡ nodes → result ≡ peak_of_links 0 (laid_links (links_in links.now) order) }
+    ensures { (order : List ℕ) → Orderly links.now order → Numbered (numbers_in numbers.now) order → length order ≡ nodes → result ≡ peak_of_links 0 (laid_links (links_in links.now) order) }
 {
     let n = nodes as usize;
     let mut laid = [BLANK; MOST_NODES];
@@ -37,11 +38,11 @@ fn peak_by(links: &[Link], numbers: &[u16], nodes: u16) -> u16
 }
 
 // The places of what a node reaches, in the better order; whatever the clauses are, since an order and its peak are a matter of the links.
-pub fn better_order(links: &[Link], from: NodeNo, numbers: &mut [u16]) -> Chosen
+pub fn better_order(links: &[Link], from: NodeNo, numbers: &mut [Option<NodeNo>]) -> Chosen
     requires links { Links links.now }
     requires numbers_len { (length numbers.old ≡ length links.now) × (from.0 < length links.now) × (length (order_from (links_in links.now) from.0) ≤ most_nodes) }
     ensures order { (clauses : List Clause) → result.order ≡ better_of (nodes_in links.now clauses) from.0 }
-    ensures numbers { (clauses : List Clause) → Numbered numbers.new (better (nodes_in links.now clauses) from.0) }
+    ensures numbers { (clauses : List Clause) → Numbered (numbers_in numbers.new) (better (nodes_in links.now clauses) from.0) }
     ensures nodes { (clauses : List Clause) → result.nodes ≡ length (better (nodes_in links.now clauses) from.0) }
 {
     let nodes = press_order::order_from(links, from, numbers);

@@ -9,6 +9,7 @@ use Rattle.press_spec.specs.Better.{better_of, better}
 use Rattle.clause.specs.declared.Clause.{Clause}
 use Rattle.press_nodes.specs.declared.link.Link.{Link as CodeLink}
 use Rattle.press_nodes.specs.Tables.{links_in, nodes_in, Links}
+use Rattle.press_nodes.specs.Numbers.{numbers_in}
 use Rattle.press_order.specs.Placing.{Numbered, Orderly}
 use Rattle.press_lay.specs.Laying.{laid_links}
 use Rattle.press_peak.specs.Peaks.{peak_of_links}
@@ -57,25 +58,25 @@ peak_by-top_down-requires-clause-laying c = let inside = c.requires.numbers_len.
 
 pub returns-then-top_down-bottom_up-clause-order : goal.returns-then-top_down-bottom_up-clause-order
 returns-then-top_down-bottom_up-clause-order c =
-    takes-new c.args.links.now c.args.from.0 _ _ _ c.order_from-nodes.new.numbers c.top_down.new.numbers c.requires.links c.requires.numbers_len.1 c.order_from-nodes.ensures.count c.peak_by-bottom_up.ensures c.peak_by-top_down.ensures c.order_from-nodes.ensures.numbers c.top_down.ensures.numbers c.if-top_down-bottom_up.true
+    takes-new c.args.links.now c.args.from.0 _ _ _ (numbers_in c.order_from-nodes.new.numbers) (numbers_in c.top_down.new.numbers) c.requires.links c.requires.numbers_len.1 c.order_from-nodes.ensures.count c.peak_by-bottom_up.ensures c.peak_by-top_down.ensures c.order_from-nodes.ensures.numbers c.top_down.ensures.numbers c.if-top_down-bottom_up.true
 
 pub returns-then-top_down-bottom_up-clause-numbers : goal.returns-then-top_down-bottom_up-clause-numbers
 returns-then-top_down-bottom_up-clause-numbers c = λ d.
-    rw (is-new c.args.links.now c.args.from.0 _ _ _ c.order_from-nodes.new.numbers c.top_down.new.numbers c.requires.links c.requires.numbers_len.1 c.order_from-nodes.ensures.count c.peak_by-bottom_up.ensures c.peak_by-top_down.ensures c.order_from-nodes.ensures.numbers c.top_down.ensures.numbers c.if-top_down-bottom_up.true d) c.top_down.ensures.numbers
+    rw (is-new c.args.links.now c.args.from.0 _ _ _ (numbers_in c.order_from-nodes.new.numbers) (numbers_in c.top_down.new.numbers) c.requires.links c.requires.numbers_len.1 c.order_from-nodes.ensures.count c.peak_by-bottom_up.ensures c.peak_by-top_down.ensures c.order_from-nodes.ensures.numbers c.top_down.ensures.numbers c.if-top_down-bottom_up.true d) c.top_down.ensures.numbers
 
 pub returns-then-top_down-bottom_up-clause-nodes : goal.returns-then-top_down-bottom_up-clause-nodes
 returns-then-top_down-bottom_up-clause-nodes c = λ d. c.order_from-nodes.ensures.count
     ∙ sym (as_long c.requires.links c.args.from.0 c.requires.numbers_len.1)
-    ∙ ap length (sym (is-new c.args.links.now c.args.from.0 _ _ _ c.order_from-nodes.new.numbers c.top_down.new.numbers c.requires.links c.requires.numbers_len.1 c.order_from-nodes.ensures.count c.peak_by-bottom_up.ensures c.peak_by-top_down.ensures c.order_from-nodes.ensures.numbers c.top_down.ensures.numbers c.if-top_down-bottom_up.true d))
+    ∙ ap length (sym (is-new c.args.links.now c.args.from.0 _ _ _ (numbers_in c.order_from-nodes.new.numbers) (numbers_in c.top_down.new.numbers) c.requires.links c.requires.numbers_len.1 c.order_from-nodes.ensures.count c.peak_by-bottom_up.ensures c.peak_by-top_down.ensures c.order_from-nodes.ensures.numbers c.top_down.ensures.numbers c.if-top_down-bottom_up.true d))
 
 pub returns-clause-order : goal.returns-clause-order
 returns-clause-order c =
-    takes-old c.args.links.now c.args.from.0 _ _ _ c.order_from-nodes.new.numbers c.top_down.new.numbers c.requires.links c.requires.numbers_len.1 c.order_from-nodes.ensures.count c.peak_by-bottom_up.ensures c.peak_by-top_down.ensures c.order_from-nodes.ensures.numbers c.top_down.ensures.numbers c.if-top_down-bottom_up.false
+    takes-old c.args.links.now c.args.from.0 _ _ _ (numbers_in c.order_from-nodes.new.numbers) (numbers_in c.top_down.new.numbers) c.requires.links c.requires.numbers_len.1 c.order_from-nodes.ensures.count c.peak_by-bottom_up.ensures c.peak_by-top_down.ensures c.order_from-nodes.ensures.numbers c.top_down.ensures.numbers c.if-top_down-bottom_up.false
 
 pub returns-clause-numbers : goal.returns-clause-numbers
 returns-clause-numbers c = λ d.
-    rw (is-old c.args.links.now c.args.from.0 _ _ _ c.order_from-nodes.new.numbers c.top_down.new.numbers c.requires.links c.requires.numbers_len.1 c.order_from-nodes.ensures.count c.peak_by-bottom_up.ensures c.peak_by-top_down.ensures c.order_from-nodes.ensures.numbers c.top_down.ensures.numbers c.if-top_down-bottom_up.false d) c.order_from.ensures.numbers
+    rw (is-old c.args.links.now c.args.from.0 _ _ _ (numbers_in c.order_from-nodes.new.numbers) (numbers_in c.top_down.new.numbers) c.requires.links c.requires.numbers_len.1 c.order_from-nodes.ensures.count c.peak_by-bottom_up.ensures c.peak_by-top_down.ensures c.order_from-nodes.ensures.numbers c.top_down.ensures.numbers c.if-top_down-bottom_up.false d) c.order_from.ensures.numbers
 
 pub returns-clause-nodes : goal.returns-clause-nodes
 returns-clause-nodes c = λ d. c.order_from-nodes.ensures.count
-    ∙ ap length (sym (is-old c.args.links.now c.args.from.0 _ _ _ c.order_from-nodes.new.numbers c.top_down.new.numbers c.requires.links c.requires.numbers_len.1 c.order_from-nodes.ensures.count c.peak_by-bottom_up.ensures c.peak_by-top_down.ensures c.order_from-nodes.ensures.numbers c.top_down.ensures.numbers c.if-top_down-bottom_up.false d))
+    ∙ ap length (sym (is-old c.args.links.now c.args.from.0 _ _ _ (numbers_in c.order_from-nodes.new.numbers) (numbers_in c.top_down.new.numbers) c.requires.links c.requires.numbers_len.1 c.order_from-nodes.ensures.count c.peak_by-bottom_up.ensures c.peak_by-top_down.ensures c.order_from-nodes.ensures.numbers c.top_down.ensures.numbers c.if-top_down-bottom_up.false d))
