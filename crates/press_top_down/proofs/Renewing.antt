@@ -12,10 +12,14 @@ use Rattle.press_spec.specs.Trim.{naming, uses_in}
 use Rattle.press_nodes.specs.declared.link.Link.{Link as CodeLink}
 use Rattle.press_nodes.specs.Tables.{links_in, changed}
 use Rattle.press_nodes.proofs.Tables.{links-length}
+use Rattle.press_nodes.specs.Numbers.{numbers_in}
 use Rattle.press_nodes.specs.declared.fate.Side.{Side}
-use Rattle.press_users.specs.Chains.{parent_on, Chaining}
-use Rattle.press_scores.specs.Rows.{score_words, scores_in}
-use Rattle.press_top_down.specs.Renewed.{Tables, Scored, Renewed, Names, Touched, itself, user, sharer}
+use Rattle.press_users.specs.Chains.{parent_on, Chain, Chaining}
+use Rattle.press_scores.specs.Rows.{scores_in}
+use Rattle.std.proofs.Common.{Option}
+use Rattle.sheet.specs.declared.NodeNo.{NodeNo}
+use Rattle.press_top_down.specs.declared.renew.Chains.{Chains}
+use Rattle.press_top_down.specs.Renewed.{ChainsOf, Scored, Renewed, Names, Touched, itself, user, sharer}
 
 module _ (f : ℕ → ℕ) where
   pub one-renewed : {n v : ℕ} {rows next : List ℕ} → v ≡ f n → ((m : ℕ) → scores_in next m ≡ changed n v (scores_in rows) m)
@@ -39,6 +43,12 @@ module _ (f : ℕ → ℕ) where
       by : (m : ℕ) → P m ⊎ Q m → Scored f last m
       by m (inl p) = b.still-right m (a.now-right m p)
       by m (inr q) = b.now-right m q
+
+-- ---- chains that are lent, and stand in the tables again
+
+pub chains-again : {links : List CodeLink} {t : Chains} (heads nexts : List (Option NodeNo)) → t.heads.now ≡ heads → t.nexts.now ≡ nexts → length heads ≡ length links
+    → length nexts ≡ length links → Chain t.side (links_in links) (length links) (numbers_in heads) (numbers_in nexts) → ChainsOf links t
+chains-again heads nexts e f h i c = record { chained = rw (e, f) c; headed = rw e h; followed = rw f i }
 
 -- ---- a chain of users of q, from its newest on; p gives one more than a node's parent, and there are k nodes
 

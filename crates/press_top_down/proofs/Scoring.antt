@@ -1,14 +1,19 @@
 -- The score of a node, by what the code finds in the tables.
-use Prim.Native.Nat.{ℕ, suc, ◌+◌, ◌≤◌}
-use mathlib.Core.Path.{◌≡◌}
-use mathlib.Core.Bool.{Bool, true, false, ◌&&◌, cond}
+use Prim.Native.Nat.{ℕ, suc, ◌+◌, ◌≤◌, ◌<◌}
+use mathlib.Core.Path.{◌≡◌, refl, sym, ap, ◌∙◌}
+use mathlib.Core.Bool.{Bool, true, false, ◌&&◌, not, cond}
 use mathlib.Core.List.{List}
 use native.Mathlib.Omega.{arith}
 use lib.Dec.{eqb}
-use lib.ListN.{get_or}
+use lib.ListN.{length, get_or}
+use borrow.Author.Tests.{ne_eqb}
+use Rattle.std.proofs.Common.{Option, None, Some, is_some}
+use Rattle.sheet.specs.declared.NodeNo.{NodeNo}
 use Rattle.base.proofs.Lists.{cond_both}
 use Rattle.press_spec.specs.Links.{Link, leaf, join, link_at}
 use Rattle.press_spec.specs.TopDown.{gain_by}
+use Rattle.press_nodes.specs.Numbers.{number_in, numbers_in}
+use Rattle.press_nodes.proofs.Numbers.{numbers-at}
 use Rattle.press_top_down.specs.Scores.{marked, parents_marked, score_in}
 
 -- ---- what a node gains
@@ -23,6 +28,17 @@ module _ (count : ℕ → ℕ) where
   gain-few (join p l r) =
       cond_both (λ k. k ≤ 2) (eqb l r) _ _ (omega (arith, at_most_one (eqb (count l) 2)))
       (omega (arith, at_most_one (eqb (count l) 1), at_most_one (eqb (count r) 1)))
+
+-- ---- a node that has a place
+
+some-marks : (x : Option NodeNo) → is_some x ≡ not (eqb (number_in x) 0)
+unfolding number_in
+some-marks None = refl
+some-marks (Some n) = sym (ap not (ne_eqb (suc n.0) 0 (omega arith)))
+
+pub place-marks : (t : List (Option NodeNo)) (n i : ℕ) (result : Bool) → i ≡ n → n < length t → result ≡ is_some (get_or t i None) → result ≡ marked (numbers_in t) n
+unfolding marked
+place-marks t n i result same h e = e ∙ some-marks (get_or t i None) ∙ ap (λ (k : ℕ). not (eqb k 0)) (numbers-at t i n None same h)
 
 -- ---- the score
 

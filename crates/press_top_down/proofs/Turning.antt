@@ -10,7 +10,9 @@ use lib.Dec.{eqb}
 use lib.ListN.{length, get_or, set, replicate, get_or-eq_default}
 use lib.Seq.{get_or-set_other}
 use borrow.Author.Tests.{eqb-false, eq-eqb, ne_eqb}
+use Rattle.std.proofs.Common.{Option, None}
 use Rattle.base.specs.Folds.{rise}
+use Rattle.sheet.specs.declared.NodeNo.{NodeNo}
 use Rattle.sheet.specs.Editions.{capacity}
 use Rattle.press_spec.specs.Links.{Link, leaf, join, link_at}
 use Rattle.press_spec.specs.Trim.{trim, trimmed, uses_in, uses, uses_from}
@@ -24,6 +26,7 @@ use Rattle.press_spec.proofs.TopDown.{kept-few, turns-over, turn-left, turn_more
 use Rattle.press_nodes.specs.declared.link.Link.{Link as CodeLink}
 use Rattle.press_nodes.specs.Tables.{links_in, Links}
 use Rattle.press_nodes.proofs.Tables.{links-length, links-falling}
+use Rattle.press_nodes.specs.Numbers.{numbers_in}
 use Rattle.press_order.specs.Placing.{Numbered, Stands}
 use Rattle.press_order.proofs.Placing.{by_place}
 use Rattle.press_order.proofs.Arranging.{none-stand}
@@ -42,8 +45,8 @@ pub record Turning (s : List Link) (kept left ahead numbers : List ℕ) (count :
   pub remain : left ≡ unplaced kept (order_at s kept count)
   pub names : (m : ℕ) → get_or ahead m 0 ≡ uses (trimmed s (unplaced kept (order_at s kept count))) m
 
-pub turns-start : (s : List Link) (from : ℕ) (left ahead numbers cleared : List ℕ) → ((m : ℕ) → get_or ahead m 0 ≡ uses_from s from m)
-    → left ≡ trim s from → cleared ≡ replicate (length numbers) 0 → Turning s left left ahead cleared 0
+pub turns-start : (s : List Link) (from : ℕ) (left ahead : List ℕ) (numbers cleared : List (Option NodeNo)) → ((m : ℕ) → get_or ahead m 0 ≡ uses_from s from m)
+    → left ≡ trim s from → cleared ≡ replicate (length numbers) None → Turning s left left ahead (numbers_in cleared) 0
 unfolding rise unplaced uses_from
 turns-start s from left ahead numbers cleared f e z = record {
   few = omega arith;

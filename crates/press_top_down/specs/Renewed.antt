@@ -1,9 +1,10 @@
 -- A table of scores beside the tables that they come from: which scores are right, and which a node that is taken can change.
-use Rattle.std.specs.Prelude.{ℕ, suc, ◌≤◌, ◌≡◌, ◌⊎◌, List, length, get_or, Option, Some, None}
+use Rattle.std.specs.Prelude.{ℕ, suc, ◌≤◌, ◌≡◌, ◌⊎◌, List, length, get_or, Option}
 use Rattle.sheet.specs.declared.NodeNo.{NodeNo}
 use Rattle.press_spec.specs.Links.{Link, link_at}
 use Rattle.press_spec.specs.Trim.{uses_in}
 use Rattle.press_nodes.specs.Tables.{links_in, Links}
+use Rattle.press_nodes.specs.Numbers.{numbers_in}
 use Rattle.press_nodes.specs.declared.link.Link.{Link as CodeLink}
 use Rattle.press_nodes.specs.declared.fate.Side.TheVariants.{Left, Right}
 use Rattle.press_users.specs.Chains.{parent_on, Chain}
@@ -14,7 +15,7 @@ use Rattle.press_top_down.specs.declared.renew.Sides.{Sides}
 use Rattle.press_top_down.specs.Scores.{score_in}
 
 -- the tables of a turn: an entry for each node, and the scores
-pub record Tables (links : List CodeLink) (left ahead numbers rows : List ℕ) : Type 0 where
+pub record Tables (links : List CodeLink) (left ahead : List ℕ) (numbers : List (Option NodeNo)) (rows : List ℕ) : Type 0 where
   pub linked : Links links
   pub lefts : length left ≡ length links
   pub aheads : length ahead ≡ length links
@@ -25,16 +26,11 @@ abbrev pub Standing : State → List ℕ → Type 0
 Standing t rows = Tables t.links.now t.left.now t.ahead.now t.numbers.now rows
 
 abbrev pub score_of : State → ℕ → ℕ
-score_of t = score_in (links_in t.links.now) t.left.now t.ahead.now t.numbers.now
-
--- what an entry of a chain says: 0 is none
-abbrev pub entry_in : Option NodeNo → ℕ
-entry_in None = 0
-entry_in (Some n) = suc n.0
+score_of t = score_in (links_in t.links.now) t.left.now t.ahead.now (numbers_in t.numbers.now)
 
 -- the users of each node on a side, in chains
 pub record ChainsOf (links : List CodeLink) (t : Chains) : Type 0 where
-  pub chained : Chain t.side (links_in links) (length links) t.heads.now t.nexts.now
+  pub chained : Chain t.side (links_in links) (length links) (numbers_in t.heads.now) (numbers_in t.nexts.now)
   pub headed : length t.heads.now ≡ length links
   pub followed : length t.nexts.now ≡ length links
 

@@ -2,12 +2,13 @@
 // nodes can be dropped at once; ties go to the smallest number, as nodes were numbered when the order began."
 #![tactic(auto)]
 
-ghost use Rattle.std.specs.Prelude.{◌≡◌, List, ◌∷◌, ℕ, ◌+◌, ◌≤◌, ◌<◌, length, get_or, set, replicate};
+ghost use Rattle.std.specs.Prelude.{◌≡◌, List, ◌∷◌, ℕ, ◌+◌, ◌≤◌, ◌<◌, length, get_or, set, replicate, None};
 ghost use Rattle.sheet.specs.Editions.{capacity};
 ghost use Rattle.press_spec.specs.Links.{link_at};
 ghost use Rattle.press_spec.specs.Trim.{trim, naming, uses_in, uses_from};
 ghost use Rattle.press_spec.specs.TopDown.{top_down};
 ghost use Rattle.press_nodes.specs.Tables.{links_in, Links};
+ghost use Rattle.press_nodes.specs.Numbers.{numbers_in};
 ghost use Rattle.press_order.specs.Placing.{Numbered, Stands};
 ghost use Rattle.press_scores.specs.Rows.{scores_in};
 ghost use Rattle.press_top_down.specs.Scores.{score_in};
@@ -56,7 +57,7 @@ fn take(
     n: NodeNo,
     left: &mut [u8],
     ahead: &mut [u16],
-    numbers: &mut [u16],
+    numbers: &mut [Option<NodeNo>],
     count: u16,
 ) -> u16
     requires links { Links links.now }
@@ -64,7 +65,7 @@ fn take(
     requires by_index { (m : ℕ) → uses_in m (link_at (links_in links.now) n.0) ≤ get_or ahead.old m 0 }
     ensures left { left.new ≡ set left.old n.0 0 }
     ensures ahead { (m : ℕ) → get_or ahead.new m 0 + uses_in m (link_at (links_in links.now) n.0) ≡ get_or ahead.old m 0 }
-    ensures numbers { (order : List ℕ) → Stands numbers.old count order → Stands numbers.new result (n.0 ∷ order) }
+    ensures numbers { (order : List ℕ) → Stands (numbers_in numbers.old) count order → Stands (numbers_in numbers.new) result (n.0 ∷ order) }
 {
     left[n.index()] = 0;
     close(links, n, ahead);
@@ -77,7 +78,7 @@ fn begin(
     from: NodeNo,
     left: &mut [u8],
     ahead: &mut [u16],
-    numbers: &mut [u16],
+    numbers: &mut [Option<NodeNo>],
     rows: &mut [u64],
 )
     requires tables { Tables links.now left.old ahead.old numbers.old rows.old }
@@ -85,11 +86,11 @@ fn begin(
     requires by_index { (m : ℕ) → scores_in rows.old m ≡ 0 }
     ensures left { left.new ≡ trim (links_in links.now) from.0 }
     ensures ahead { (m : ℕ) → get_or ahead.new m 0 ≡ uses_from (links_in links.now) from.0 m }
-    ensures numbers { numbers.new ≡ replicate (length numbers.old) 0 }
-    ensures scores { (m : ℕ) → Scored (score_in (links_in links.now) left.new ahead.new numbers.new) rows.new m }
+    ensures numbers { numbers.new ≡ replicate (length numbers.old) None }
+    ensures scores { (m : ℕ) → Scored (score_in (links_in links.now) left.new ahead.new (numbers_in numbers.new)) rows.new m }
 {
     uses::uses_with(links, from, left, ahead);
-    numbers.fill(0);
+    numbers.fill(None);
     let state = State {
         links,
         left,
@@ -105,7 +106,7 @@ fn turns(
     from: NodeNo,
     left: &mut [u8],
     ahead: &mut [u16],
-    numbers: &mut [u16],
+    numbers: &mut [Option<NodeNo>],
     users: &Sides,
     rows: &mut [u64],
 ) -> u16
@@ -113,7 +114,7 @@ fn turns(
     requires users { Users links.now users.now }
     requires from_in_bounds { from.0 < length links.now }
     requires by_index { (m : ℕ) → scores_in rows.old m ≡ 0 }
-    ensures { Stands numbers.new result (top_down (links_in links.now) from.0) }
+    ensures { Stands (numbers_in numbers.new) result (top_down (links_in links.now) from.0) }
 {
     begin(links, from, left, ahead, numbers, rows);
     let mut count = 0;
@@ -131,11 +132,11 @@ fn turns(
 }
 
 // The order, with the tables that its turns need beside those of the users.
-fn ordered(links: &[Link], from: NodeNo, users: &Sides, numbers: &mut [u16]) -> u16
+fn ordered(links: &[Link], from: NodeNo, users: &Sides, numbers: &mut [Option<NodeNo>]) -> u16
     requires links { Links links.now }
     requires users { Users links.now users.now }
     requires numbers_len { (length numbers.old ≡ length links.now) × (from.0 < length links.now) }
-    ensures { Stands numbers.new result (top_down (links_in links.now) from.0) }
+    ensures { Stands (numbers_in numbers.new) result (top_down (links_in links.now) from.0) }
 {
     let mut left = [0u8; CAPACITY];
     let mut ahead = [0u16; CAPACITY];
@@ -153,16 +154,16 @@ fn ordered(links: &[Link], from: NodeNo, users: &Sides, numbers: &mut [u16]) -> 
 }
 
 // The places of what a node reaches, and how many there are.
-pub fn top_down(links: &[Link], from: NodeNo, numbers: &mut [u16]) -> u16
+pub fn top_down(links: &[Link], from: NodeNo, numbers: &mut [Option<NodeNo>]) -> u16
     requires links { Links links.now }
     requires numbers_len { (length numbers.old ≡ length links.now) × (from.0 < length links.now) }
-    ensures numbers { Numbered numbers.new (top_down (links_in links.now) from.0) }
+    ensures numbers { Numbered (numbers_in numbers.new) (top_down (links_in links.now) from.0) }
     ensures count { result ≡ length (top_down (links_in links.now) from.0) }
 {
-    let mut left_heads = [0u16; CAPACITY];
-    let mut left_nexts = [0u16; CAPACITY];
-    let mut right_heads = [0u16; CAPACITY];
-    let mut right_nexts = [0u16; CAPACITY];
+    let mut left_heads = [None; CAPACITY];
+    let mut left_nexts = [None; CAPACITY];
+    let mut right_heads = [None; CAPACITY];
+    let mut right_nexts = [None; CAPACITY];
     let n = links.len();
     press_users::chain(
         links,

@@ -6,7 +6,7 @@ ghost use Rattle.press_spec.specs.Links.{link_at};
 ghost use Rattle.press_nodes.specs.Tables.{links_in};
 ghost use Rattle.press_users.specs.Chains.{parent_on};
 ghost use Rattle.press_scores.specs.Rows.{scores_in};
-ghost use Rattle.press_top_down.specs.Renewed.{entry_in, Standing, score_of, ChainsOf, Users, Scored, Renewed, Names, Touched};
+ghost use Rattle.press_top_down.specs.Renewed.{Standing, score_of, ChainsOf, Users, Scored, Renewed, Names, Touched};
 
 use crate::score::State;
 use press_nodes::fate::Side;
@@ -18,25 +18,14 @@ use sheet::NodeNo;
 #[derive(Clone, Copy)]
 pub(crate) struct Chains<'a> {
     pub(crate) side: Side,
-    pub(crate) heads: &'a [u16],
-    pub(crate) nexts: &'a [u16],
+    pub(crate) heads: &'a [Option<NodeNo>],
+    pub(crate) nexts: &'a [Option<NodeNo>],
 }
 
 #[derive(Clone, Copy)]
 pub(crate) struct Sides<'a> {
     pub(crate) left: Chains<'a>,
     pub(crate) right: Chains<'a>,
-}
-
-// The node that an entry of a chain stands for: 0 is none.
-fn entry(chain: &[u16], n: NodeNo) -> Option<NodeNo>
-    requires { n.0 < length chain.now }
-    ensures { entry_in result ≡ get_or chain.now n.0 0 }
-{
-    match chain[n.index()] {
-        0 => None,
-        user => Some(NodeNo(user - 1)),
-    }
 }
 
 impl State<'_> {
@@ -56,10 +45,10 @@ impl State<'_> {
         requires q_in_bounds { q.0 < length self.now.links.now }
         ensures { Renewed (score_of self.now) (λ m. parent_on chains.now.side (link_at (links_in self.now.links.now) m) ≡ suc q.0) rows.old rows.new }
     {
-        let mut user = entry(chains.heads, q);
+        let mut user = chains.heads[q.index()];
         while let Some(n) = user {
             self.renew(n, rows);
-            user = entry(chains.nexts, n);
+            user = chains.nexts[n.index()];
         }
     }
 

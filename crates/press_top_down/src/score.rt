@@ -3,6 +3,7 @@ ghost use Rattle.std.specs.Prelude.{◌≡◌, cond, ℕ, ◌<◌, eqb, length, 
 ghost use Rattle.press_spec.specs.Links.{join};
 ghost use Rattle.press_spec.specs.TopDown.{gain_by};
 ghost use Rattle.press_nodes.specs.Tables.{links_in, Links};
+ghost use Rattle.press_nodes.specs.Numbers.{numbers_in};
 ghost use Rattle.press_top_down.specs.Scores.{marked, score_in};
 
 use press_nodes::link;
@@ -17,8 +18,8 @@ pub(crate) struct State<'a> {
     pub(crate) left: &'a [u8],
     // The places in unplaced nodes that name the node.
     pub(crate) ahead: &'a [u16],
-    // Its place plus 1, or 0 while it is not placed.
-    pub(crate) numbers: &'a [u16],
+    // Its place, once it is placed.
+    pub(crate) numbers: &'a [Option<NodeNo>],
 }
 
 impl State<'_> {
@@ -30,12 +31,11 @@ impl State<'_> {
         self.left[n.index()] != 0
     }
 
-    #[tactic(auto, unfolding(crate::specs::Scores::marked))]
     fn is_placed(&self, n: NodeNo) -> bool
         requires { n.0 < length self.now.numbers.now }
-        ensures { result ≡ marked self.now.numbers.now n.0 }
+        ensures { result ≡ marked (numbers_in self.now.numbers.now) n.0 }
     {
-        self.numbers[n.index()] != 0
+        self.numbers[n.index()].is_some()
     }
 
     // 1 if a node that names n in `own` places is the last that names it, else 0.
@@ -63,7 +63,7 @@ impl State<'_> {
     pub(crate) fn score(&self, n: NodeNo) -> u16
         requires links { Links self.now.links.now }
         requires left_len { (length self.now.left.now ≡ length self.now.links.now) × (length self.now.ahead.now ≡ length self.now.links.now) × (length self.now.numbers.now ≡ length self.now.links.now) × (n.0 < length self.now.links.now) }
-        ensures { result ≡ score_in (links_in self.now.links.now) self.now.left.now self.now.ahead.now self.now.numbers.now n.0 }
+        ensures { result ≡ score_in (links_in self.now.links.now) self.now.left.now self.now.ahead.now (numbers_in self.now.numbers.now) n.0 }
     {
         if !self.is_unplaced(n) {
             return 0;

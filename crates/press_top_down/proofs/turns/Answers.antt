@@ -3,11 +3,14 @@ use mathlib.Core.Path.{◌≡◌, refl, sym, ◌∙◌}
 use mathlib.Core.List.{List}
 use native.Mathlib.Omega.{arith}
 use lib.ListN.{length}
+use Rattle.std.proofs.Common.{Option}
 use Rattle.sheet.specs.Editions.{capacity}
+use Rattle.sheet.specs.declared.NodeNo.{NodeNo}
 use Rattle.press_spec.specs.Trim.{trim}
 use Rattle.press_spec.specs.TopDown.{highest}
 use Rattle.press_nodes.specs.declared.link.Link.{Link as CodeLink}
 use Rattle.press_nodes.specs.Tables.{links_in}
+use Rattle.press_nodes.specs.Numbers.{numbers_in}
 use Rattle.press_scores.specs.Rows.{scores_in}
 use Rattle.press_top_down.specs.Scores.{score_in}
 use Rattle.press_top_down.specs.Renewed.{Tables, Scored}
@@ -16,9 +19,10 @@ use Rattle.press_top_down.proofs.Turning.{Turning, Turn, turns-start, turns-end,
 use Rattle.press_top_down.proofs.turns.Goals as goal
 
 -- what a turn finds
-turn-found : {links : List CodeLink} {kept left ahead numbers rows : List ℕ} {from count best most : ℕ} → Tables links left ahead numbers rows → from < length links → kept ≡ trim (links_in links) from
-    → Turning (links_in links) kept left ahead numbers count × ((m : ℕ) → Scored (score_in (links_in links) left ahead numbers) rows m)
-    → best ≡ highest (scores_in rows) capacity → most ≡ scores_in rows best → Turn links from kept left ahead numbers count best most
+turn-found : {links : List CodeLink} {kept left ahead rows : List ℕ} {numbers : List (Option NodeNo)} {from count best most : ℕ}
+    → Tables links left ahead numbers rows → from < length links → kept ≡ trim (links_in links) from
+    → Turning (links_in links) kept left ahead (numbers_in numbers) count × ((m : ℕ) → Scored (score_in (links_in links) left ahead (numbers_in numbers)) rows m)
+    → best ≡ highest (scores_in rows) capacity → most ≡ scores_in rows best → Turn links from kept left ahead (numbers_in numbers) count best most
 turn-found {left = left} {rows = rows} tables inside marks now found scores = record {
   tables = tables.linked;
   inside = inside;
