@@ -66,7 +66,7 @@ fn finish(
     ensures { Finishes edition lines (ended (nodes_in links.now clauses.now) from.0) result out.old marks.old out.new marks.new }
 {
     let n = links.len();
-    let mut numbers = [0u16; CAPACITY];
+    let mut numbers = [None; CAPACITY];
     let numbers = &mut numbers[..n];
     let chosen = press_better::better_order(links, from, numbers);
     let kept = chosen.nodes as usize;
