@@ -19,19 +19,19 @@ pub bounds-chains-index-in-Some : goal.bounds-chains-index-in-Some
 bounds-chains-index-in-Some c =
     omega (arith, c.index-in-Some.ensures, c.requires.chains.followed, here_in _ _ _ _ c.requires.chains.chained c.loop-user.invariant (some-suc _ _ c.in-Some.is))
 
-pub loop-user-smaller : goal.loop-user-smaller
-loop-user-smaller c =
-    let chains = c.requires.chains in
-    let here = some-suc _ _ c.in-Some.is in
-    let inside : c.in-Some.n.0 < length c.args.chains.now.nexts.now = omega (arith, chains.followed, here_in _ _ _ _ chains.chained c.loop-user.invariant here) in
-    walk-falls _ _ _ _ chains.chained c.loop-user.invariant here (numbers-at _ _ _ None c.index-in-Some.ensures inside)
-
 pub loop-user-preserved : goal.loop-user-preserved
 loop-user-preserved c =
     let chains = c.requires.chains in
     let here = some-suc _ _ c.in-Some.is in
     let inside : c.in-Some.n.0 < length c.args.chains.now.nexts.now = omega (arith, chains.followed, here_in _ _ _ _ chains.chained c.loop-user.invariant here) in
     walk-next _ _ _ _ chains.chained c.loop-user.invariant here c.renew.ensures (numbers-at _ _ _ None c.index-in-Some.ensures inside)
+
+pub loop-user-smaller : goal.loop-user-smaller
+loop-user-smaller c =
+    let chains = c.requires.chains in
+    let here = some-suc _ _ c.in-Some.is in
+    let inside : c.in-Some.n.0 < length c.args.chains.now.nexts.now = omega (arith, chains.followed, here_in _ _ _ _ chains.chained c.loop-user.invariant here) in
+    walk-falls _ _ _ _ chains.chained c.loop-user.invariant here (numbers-at _ _ _ None c.index-in-Some.ensures inside)
 
 pub returns : goal.returns
 returns c = walk_end c.loop-user.invariant (none-zero _ c.in_default.is)
