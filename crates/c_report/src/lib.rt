@@ -28,13 +28,11 @@ fn fill(report: &mut [u64], words: &[u64])
     report[..n].copy_from_slice(&words[..n]);
 }
 
+#[tactic(auto, unfolding(press_spec::specs::Better::order_number))]
 fn order_number(order: Order) -> u64
     ensures { result ≡ order_number order }
 {
-    match order {
-        Order::BottomUp => 0,
-        Order::TopDown => 1,
-    }
+    order as u64
 }
 
 // The words of a refusal: its record, and zeros.
@@ -67,6 +65,7 @@ fn words_of_press(pressed: Pressed) -> [u64; PRESS_WORDS]
 }
 
 // What is said of a press.
+#[tactic(auto, unfolding(crate::specs::Report::press_code, crate::specs::Report::press_words, press::specs::Said::said))]
 pub fn tell_press(answer: Result<Pressed, Refusal>, report: &mut [u64]) -> u32
     ensures code { result ≡ press_code (said answer) }
     ensures words { report.new ≡ fill 0 (press_words (said answer)) report.old }
@@ -100,6 +99,7 @@ fn words_of_replay(replayed: Replayed) -> [u64; REPLAY_WORDS]
 }
 
 // What is said of a replay.
+#[tactic(auto, unfolding(crate::specs::Report::replay_code, crate::specs::Report::replay_words, replay_answer::specs::Answers::said))]
 pub fn tell_replay(answer: Result<Replayed, Refusal>, report: &mut [u64]) -> u32
     ensures code { result ≡ replay_code (said_of_replay answer) }
     ensures words { report.new ≡ fill 0 (replay_words (said_of_replay answer)) report.old }

@@ -48,7 +48,6 @@ impl From<Unnamed> for u32 {
 }
 
 // 0 names that nothing is lowered.
-#[tactic(auto, unfolding(crate::specs::Named::lowering_named))]
 fn lowering_named(number: u32) -> Result<Option<Lowerable>, NoLowerable>
     ensures { result ≡ lowering_named number }
 {
@@ -59,7 +58,6 @@ fn lowering_named(number: u32) -> Result<Option<Lowerable>, NoLowerable>
 }
 
 // The edition is looked at first, then the recycling, then the lowering.
-#[tactic(auto, unfolding(crate::specs::Named::plan_of))]
 pub fn plan_of(edition: u32, recycling: u32, lowering: u32) -> Result<Plan, Unnamed>
     ensures { result ≡ plan_of edition recycling lowering }
 {
