@@ -21,7 +21,8 @@ use sheet::limits::MOST_NODES;
 mod units;
 mod univalents;
 
-// By the pass chosen: which nodes of what `from` reaches are lowered, and the rest rebuilt.
+// By the pass chosen: which nodes of what `from` reaches are lowered, and the rest rebuilt. A match and no closure: `lows_of` and `built_of` go by the
+// same two cases.
 #[tactic(auto, unfolding(press_spec::specs::Lowerings::lows_of, press_spec::specs::Lowerings::built_of))]
 fn cut(
     which: Lowerable,

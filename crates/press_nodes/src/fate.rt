@@ -12,7 +12,7 @@ pub enum Side {
     Right,
 }
 
-// A node is lost, or kept; of a step that is kept one edge may be cut. A pass that walks down the sheet may store `Kept(None)` for a node before
+// A node is lost, or kept (an `Option` of an `Option` would hide which of its two `None` is which); of a step that is kept one edge may be cut. A pass that walks down the sheet may store `Kept(None)` for a node before
 // its cut is known.
 #[derive(Clone, Copy, PartialEq, Eq)]
 pub enum Fate {

@@ -29,7 +29,8 @@ fn intersect(before: Option<Clause>, s: Clause) -> Clause
     }
 }
 
-// The set of a node that has so many uses and is handed s, as the plan chooses.
+// The set of a node that has so many uses and is handed s, as the plan chooses: by a match and no closure, since a plan names one of the two, and
+// `fit_of` goes by the same cases.
 #[tactic(auto, unfolding(press_spec::specs::Recycle::fit_of, press_spec::specs::Recycle::reset))]
 pub fn fitted(how: Recycling, uses: u16, before: Option<Clause>, s: Clause) -> Clause
     ensures { literals_of result ≡ fit_of how (λ m. uses) 0 (reach_in before) (literals_of s) }

@@ -51,7 +51,8 @@ fn close(links: &[Link], n: NodeNo, ahead: &mut [u16])
     }
 }
 
-// Node n comes next in the order, which has `count` nodes so far: how many it has then.
+// Node n comes next in the order, which has `count` nodes so far: how many it has then. What is changed is lent table by table: of a struct of `&mut`
+// slices each function would have to say that they stay the ones that were lent.
 fn take(
     links: &[Link],
     n: NodeNo,

@@ -5,9 +5,9 @@ use mathlib.Core.Bool.{Bool, true, false, cond}
 use mathlib.Core.List.{List, [], ◌∷◌}
 use native.Mathlib.Omega.{arith}
 use lib.Dec.{eqb}
-use lib.ListN.{length, get_or, replicate}
+use lib.ListN.{length, get_or, set, replicate}
 use lib.Seq.{drop-length}
-use Rattle.base.proofs.Lists.{get_d-blank, cond_both}
+use Rattle.base.proofs.Lists.{get_d-blank, cond_both, set-each}
 use Rattle.sheet.specs.Editions.{capacity}
 use Rattle.press_spec.specs.Links.{Link, leaf, join, link_at}
 use Rattle.press_nodes.specs.declared.link.Link.{Link as CodeLink}
@@ -17,6 +17,14 @@ use Rattle.press_nodes.proofs.Tables.{links-length}
 use Rattle.press_spec.proofs.Trimmed.{uses_after, uses-all}
 
 -- ---- one turn
+
+-- a use more: no count is larger than one more than the bound before
+module _ (t : List ℕ) (l : ℕ) where
+  abbrev more : List ℕ
+  more = set t l (get_or t l 0 + 1)
+
+  pub more-few : ((m : ℕ) → get_or t m 0 ≤ 2 * capacity) → (m : ℕ) → get_or more m 0 ≤ 2 * capacity + 1
+  more-few f = set-each t l (get_or t l 0 + 1) (2 * capacity + 1) (λ m. omega (arith, f m)) (omega (arith, f l))
 
 -- the places in node n that name m, if n is kept
 module _ (s : List Link) (kept : List ℕ) (n : ℕ) where

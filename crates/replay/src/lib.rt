@@ -22,7 +22,8 @@ fn check_lengths(edition: Edition, sheet: usize, rules: usize) -> Result<(), Rea
     sheet_checks::check_lengths(edition, edition.replay_records(), sheet, rules)
 }
 
-// The whole replay: checks 1 to 4, a clear row, record by record, and a clear row again.
+// The whole replay: checks 1 to 4, a clear row, record by record, and a clear row again. The edition, the sheet and the rule table are three
+// parameters, as C and the programs have them: a struct of them would only be taken apart again.
 pub fn replay(
     edition: Edition,
     sheet: &[u8],

@@ -28,7 +28,7 @@ pub enum Untaken {
     Unfit,
 }
 
-// What is looked for in the row: nothing, a free slot, or the one that holds a node.
+// What is looked for in the row: nothing, a free slot, or the one that holds a node: three cases, as the definition `Sought` has them.
 #[derive(Clone, Copy)]
 pub enum Sought {
     Nothing,
