@@ -27,7 +27,7 @@ pub fn link_at(links: &[Link], n: NodeNo) -> Link
     links[n.index()]
 }
 
-// Node n is a given, from now on.
+// Node n is a given, from now on. A given and a step are stored by two functions, each of which has its own equation.
 #[tactic(auto, using(crate::proofs::Tables::links_set), unfolding(crate::specs::Tables::link_in))]
 pub fn put_leaf(links: &mut [Link], n: NodeNo, line: LineNo)
     requires { n.0 < length links.old }

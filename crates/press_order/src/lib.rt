@@ -42,7 +42,7 @@ fn in_turn(counts: &[u16], left: NodeNo, right: NodeNo) -> Premises
     }
 }
 
-// Node n comes next in the order, which has `count` nodes so far: how many it has then.
+// Node n comes next in the order, which has `count` nodes so far: how many it has then. Table and count are no struct: both callers are lent the table.
 pub fn put_next(n: NodeNo, numbers: &mut [Option<NodeNo>], count: u16) -> u16
     requires { (n.0 < length numbers.old) × (count < capacity) }
     ensures { (order : List ℕ) → Stands (numbers_in numbers.old) count order → Stands (numbers_in numbers.new) result (n.0 ∷ order) }

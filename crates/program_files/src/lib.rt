@@ -35,7 +35,7 @@ fn read_some<F: Read>(file: &mut F, start: &mut [u8], at: usize) -> io::Result<u
     calls::read(file, &mut start[at..])
 }
 
-// How long the file is, whatever of it the start holds.
+// How long the file is, whatever of it the start holds. The loop counts no index: it adds up what the reads bring, and no read says when the last comes.
 fn read_to_end<F: Read>(file: &mut F, start: &mut [u8]) -> io::Result<usize>
     requires { length start.old ≤ 65536 }
     ensures { IsRead (F.remaining file.old) start.new result }

@@ -20,7 +20,7 @@ pub fn read(edition: Edition, bytes: &[u8]) -> Result<Record, Reason>
     sheet_record::read_record(edition, bytes, true)
 }
 
-// A step names its left parent, and a drop its node.
+// A step names its left parent, and a drop its node. Left and right are two functions, as the definitions are: a drop is looked for on the left alone.
 #[tactic(auto, unfolding(crate::specs::Sought::left_sought, sheet::specs::Denote::reading_of, sheet::specs::Denote::record_of))]
 pub fn left_sought(reading: Result<Record, Reason>) -> Sought
     ensures { sought_of result ≡ left_sought (reading_of reading) }
