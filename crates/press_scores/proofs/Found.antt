@@ -85,19 +85,21 @@ module _ (rows : List ℕ) where
   ]
 
   -- the first node of row g, where no row above has any
-  pub row-highest : (g n : ℕ) → 1 ≤ g → g ≤ 3 → n < capacity → FirstIn rows g n → ((m : ℕ) → Above g m) → (n ≡ highest (scores_in rows) capacity) × (g ≡ scores_in rows n) × (0 < g)
+  pub row-highest : (g n : ℕ) → 1 ≤ g → g ≤ 3 → n < capacity → FirstIn rows g n → ((m : ℕ) → Above g m) → (n ≡ highest (scores_in rows) capacity) × (g ≡ scores_in rows n)
   row-highest (suc g) n h k l f a =
       let e : scores_in rows n ≡ suc g = is-score n (suc g) h k (a n) (f.here l) in (
         highest-is (scores_in rows) capacity n l
             (λ m i. omega (arith, no-more m (suc g) (a m)))
             (λ m i. omega (arith, no-more m g (λ o p q. above-next m (suc g) (a m) (f.none m i) o (omega arith) q))),
         sym e,
-        omega arith,
       )
   row-highest zero n h k l f a = absurd (omega arith)
 
-  pub rows-none : ((m : ℕ) → Above 0 m) → (m : ℕ) → scores_in rows m ≡ 0
-  rows-none a m = is_none m (a m)
+  -- no row has any: node 0 is the highest
+  pub rows-none : ((m : ℕ) → Above 0 m) → (0 ≡ highest (scores_in rows) capacity) × (0 ≡ scores_in rows 0)
+  rows-none a =
+      let all : (m : ℕ) → scores_in rows m ≡ 0 = λ m. is_none m (a m) in
+      (highest-is (scores_in rows) capacity 0 (omega arith) (λ m i. omega (arith, all m)) (λ m i. absurd (omega arith)), sym (all 0))
 
 -- ---- in empty rows no node scores
 

@@ -81,16 +81,32 @@ fn first_in(rows: &[u64], g: usize) -> Option<NodeNo>
     None
 }
 
-// "ties go to the smallest number": the first node of the highest row that has one, if a node scores at all.
-pub fn highest(rows: &[u64]) -> Option<Best>
+// "ties go to the smallest number": the first node of the highest row that has one. In empty rows that is node 0, which scores 0.
+pub fn highest(rows: &[u64]) -> Best
+    requires { length rows.now ≡ score_words }
+    ensures node { result.node.0 ≡ highest (scores_in rows.now) capacity }
+    ensures score { result.score ≡ scores_in rows.now result.node.0 }
+{
+    for score in (1..=3u16).rev() {
+        if let Some(node) = first_in(rows, usize::from(score)) {
+            return Best { node, score };
+        }
+    }
+    Best {
+        node: NodeNo(0),
+        score: 0,
+    }
+}
+
+// The same, if a node scores at all.
+pub fn highest_if_any(rows: &[u64]) -> Option<Best>
     requires { length rows.now ≡ score_words }
     ensures some { IfSome result (λ best. (best.node.0 ≡ highest (scores_in rows.now) capacity) × (best.score ≡ scores_in rows.now best.node.0) × (0 < best.score)) }
     ensures none { IfNone result (scores_in rows.now (highest (scores_in rows.now) capacity) ≡ 0) }
 {
-    for score in (1..=3u16).rev() {
-        if let Some(node) = first_in(rows, usize::from(score)) {
-            return Some(Best { node, score });
-        }
+    let best = highest(rows);
+    if best.score == 0 {
+        return None;
     }
-    None
+    Some(best)
 }

@@ -119,7 +119,7 @@ fn turns(
 {
     begin(links, from, left, ahead, numbers, rows);
     let mut count = 0;
-    while let Some(best) = press_scores::highest(rows) {
+    while let Some(best) = press_scores::highest_if_any(rows) {
         count = take(links, best.node, left, ahead, numbers, count);
         let state = State {
             links,
