@@ -30,8 +30,8 @@ the answer and of all that is lent fixes both: nothing else would satisfy it. A 
 asks for something, or says of lent memory only what a view of it shows, is listed with the reason in [PROMISES](PROMISES.md).
 """
 
-# A view of memory shows a part of it. (`links_in`, `clauses_in`, `fates_in`, `low_in` and `numbers_in` show every field of every entry.)
-VIEWS = r"nodes_in|reaches_in|order_in|judged_in|take|length"
+# A view of memory shows a part of it, or shows it in another form: the numbers of links, nodes and fates, a part.
+VIEWS = r"links_in|nodes_in|fates_in|reaches_in|order_in|judged_in|take|length"
 
 # The limits of the scope document, and where the code and the definitions give them names.
 LIMITS = re.compile(r"(?<![\w.'])(512|1_?023|1_?024|2_?047|128|64|40|32|24|16)(?![\w'])")
