@@ -1,5 +1,5 @@
 // The symbols of the C interface, as include/tempuquile.h declares them: each calls the function of `c_exports` that has its name, and promises the
-// same.
+// same. Only a static library has symbols, and no crate can use one, so `c_exports` is a crate of its own.
 #![tactic(auto)]
 
 ghost use Rattle.std.specs.Prelude.{◌≡◌};

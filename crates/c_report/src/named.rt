@@ -1,4 +1,4 @@
-// What a caller names by numbers: the plan of a press; the edition of a replay is one by itself (`Edition::try_from`).
+// What a caller names by numbers: the plan of a press; the edition of a replay is named alone (`Edition::try_from`).
 ghost use Rattle.std.specs.Prelude.{◌≡◌};
 ghost use Rattle.c_report.specs.Named.{unnamed_code, lowering_named, plan_of};
 ghost use Rattle.c_report.specs.declared.named.Unnamed.TheVariants as U;

@@ -118,7 +118,8 @@ fn finish_lowered(
     )
 }
 
-// 1 to 6, by a match on what the plan lowers, as `pressed` goes. Lines, output and marks are handed through as the caller lent them. Recycling's sets and then the pressed clauses stand in one table, `sets`: the first are done with when the second are laid out.
+// 1 to 6, by a match on what the plan lowers, as `pressed` goes. Lines, output and marks come from C one by one, and are handed on so.
+// Recycling's sets and then the pressed clauses stand in one table, `sets`: the first are done with when the second are laid out.
 pub fn run_passes(
     plan: Plan,
     links: &mut [Link],

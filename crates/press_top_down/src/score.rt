@@ -14,7 +14,7 @@ use sheet::NodeNo;
 #[derive(Clone, Copy)]
 pub(crate) struct State<'a> {
     pub(crate) links: &'a [Link],
-    // 1 for a node that is unplaced, else 0.
+    // 1 for a node that is unplaced, else 0, as the definition `trim` has it.
     pub(crate) left: &'a [u8],
     // The places in unplaced nodes that name the node.
     pub(crate) ahead: &'a [u16],

@@ -1,4 +1,5 @@
--- Chains of steps that have one parent on one side. A chain is kept in two tables of node numbers, each one more than the number, so that 0 is none.
+-- Chains of steps that have one parent on one side. A chain is kept in two tables, seen as numbers: each one more than the
+-- number of a node, and 0 for none.
 use Rattle.std.specs.Prelude.{ℕ, suc, ◌-◌, ◌≤◌, ◌<◌, ◌≡◌, List, get_or}
 use Rattle.press_spec.specs.Links.{Link, leaf, join, link_at}
 use Rattle.press_nodes.specs.declared.fate.Side.{Side}

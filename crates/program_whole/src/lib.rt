@@ -20,7 +20,8 @@ pub const PLAN: Plan = Plan {
     lowering: None,
 };
 
-// Presses two files of the narrow edition, of which the starts are at hand: the answer is that of the whole files.
+// Presses two files of the narrow edition, of which the starts are at hand: the answer is that of the whole files. The
+// lengths are those of the files, not of the starts, so they stand beside them.
 pub fn press_whole(
     sheet: &[u8],
     sheet_length: usize,
