@@ -20,7 +20,8 @@ use press_reach::literal;
 use press_reach::literal::Literal;
 use sheet::NodeNo;
 
-// How many nodes of the tables are in use, and which of them is the conclusion.
+// How many nodes of the tables are in use, and which of them is the conclusion. The tables are arrays with room for the most nodes, as memory is fixed,
+// so the count stands beside them.
 #[derive(Clone, Copy)]
 pub struct Ended {
     pub nodes: u16,

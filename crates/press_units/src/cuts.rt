@@ -24,7 +24,7 @@ fn fate_of(links: &[Link], low: &[Option<Literal>], kept: &[u8], n: NodeNo) -> F
     Fate::Kept(edge::cut_of(links, low, n))
 }
 
-// What becomes of each node where these are kept and those are lowered.
+// What becomes of each node where these are kept and those are lowered. Marks and fates are entries of two types, so they stand in two tables.
 pub fn cut_uses(links: &[Link], low: &[Option<Literal>], kept: &[u8], fates: &mut [Fate])
     requires links { Links links.now }
     requires low_len { (length low.now ≡ length links.now) × (length kept.now ≡ length links.now) × (length fates.old ≡ length links.now) }
