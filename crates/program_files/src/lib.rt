@@ -132,7 +132,8 @@ fn write_over<F: Read + Write + Seek + OpenFile>(
     written
 }
 
-// A file that cannot be read is emptied first, since its old bytes cannot be kept.
+// A file that cannot be read is emptied first, since its old bytes cannot be kept. Inlined, its buffer would stand in the stack of every run.
+#[inline(never)]
 fn write_in_place<R: Files>(rt: &R, path: &[u8], bytes: &[u8]) -> io::Result<()> {
     match calls::open(rt, path, How::Update) {
         Ok(mut file) => write_over(&mut file, bytes, &mut [0u8; PIECE]),
