@@ -8,6 +8,7 @@ use Rattle.sheet.specs.Fields.{record_bytes_of}
 use Rattle.tally.specs.Tally.{Tally, nothing, counted}
 use Rattle.tally.specs.Said.{tally_of}
 use Rattle.press_emit.specs.declared.Emitted.{Emitted}
+use Rattle.press_emit.specs.declared.Emitter.{Emitter}
 
 pub record Emission : Type 0 where
   pub edition : Edition
@@ -18,8 +19,11 @@ pub record Emission : Type 0 where
 abbrev pub emission : Edition → List ℕ → ℕ → Tally → Emission
 emission edition out records tally = record { edition = edition; out = out; records = records; tally = tally }
 
-abbrev pub emission_of : Emitted → Emission
-emission_of e = emission e.edition e.out.now e.records (tally_of e.tally)
+abbrev pub emission_of : List ℕ → Emitted → Emission
+emission_of out e = emission e.edition out e.records (tally_of e.tally)
+
+abbrev pub emitted_by : Emitter → Emission
+emitted_by e = emission_of e.out.now e.emitted
 
 -- before the first record
 abbrev pub unwritten : Edition → List ℕ → Emission

@@ -1,4 +1,3 @@
-use borrow.Author.Rules.{rules}
 use native.Mathlib.Omega.{arith}
 use mathlib.Core.Path.{ap, ◌∙◌}
 use Rattle.base.specs.Bytes.{put}
@@ -23,12 +22,11 @@ returns-clause-report c =
     let a = c.args in
     let fit = c.requires.emittable in
     let core = same-core a.links.now a.clauses.now fit in
-    all-reported fit a.order (emission_of c.emit_records-emitted.result) c.emit_records-emitted.ensures.written (last-concludes a.links.now a.clauses.now fit _ c.clause_at.ensures) (c.mark_lines-marked.ensures.marked ∙ ap total core)
+    all-reported fit a.order (emission_of _ _) c.emit_records-emitted.ensures (last-concludes a.links.now a.clauses.now fit _ c.clause_at.ensures) (c.mark_lines-marked.ensures.marked ∙ ap total core)
 
 pub returns-clause-lent : goal.returns-clause-lent
 returns-clause-lent c =
     let a = c.args in
     let fit = c.requires.emittable in
     let core = same-core a.links.now a.clauses.now fit in
-    let e = all-written fit (emission_of c.emit_records-emitted.result) c.emit_records-emitted.ensures.written in
-    (search (rules, e, c.emit_records-emitted.ensures.same_reference), c.mark_lines-marked.ensures.marks ∙ ap (put a.marks.now 0) core)
+    (all-written fit (emission_of _ _) c.emit_records-emitted.ensures, c.mark_lines-marked.ensures.marks ∙ ap (put a.marks.now 0) core)

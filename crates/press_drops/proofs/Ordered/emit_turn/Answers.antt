@@ -12,7 +12,7 @@ use Rattle.press_spec.specs.Links.{link_at}
 use Rattle.press_nodes.specs.declared.link.Link.{Link as CodeLink}
 use Rattle.press_nodes.specs.declared.link.Link.TheVariants.{Join}
 use Rattle.press_nodes.specs.Tables.{link_in, links_in, nodes_in, Nodes}
-use Rattle.press_emit.specs.Emission.{Emission, emission_of, emit_record, Roomy}
+use Rattle.press_emit.specs.Emission.{Emission, emitted_by, emit_record, Roomy}
 use Rattle.press_nodes.proofs.Tables.{links-nodes, link-in}
 use Rattle.press_nodes.proofs.Numbers.{numbers-length}
 use Rattle.press_nodes.proofs.Found.{found-leaf}
@@ -36,12 +36,12 @@ module _ (h : List CodeLink) (cs : List Clause) (last : List ℕ) (k : ℕ) (old
 pub emit_record-requires : goal.emit_record-requires
 emit_record-requires c =
     let t = c.args.self.now in
-    rw c.node_at-record.ensures (turn-room (nodes_in t.links.now t.clauses.now) c.args.k.0 (emission_of c.args.emitted.now) c.requires.roomy)
+    rw c.node_at-record.ensures (turn-room (nodes_in t.links.now t.clauses.now) c.args.k.0 (emitted_by c.args.emitter.now) c.requires.roomy)
 
 pub returns-in_default-clause-written : goal.returns-in_default-clause-written
 returns-in_default-clause-written c =
     let t = c.args.self.now in
-    let e = emission_of c.args.emitted.now in
+    let e = emitted_by c.args.emitter.now in
     c.emit_record.ensures.written
     ∙ ap (λ (q : Record). emit_record q e) c.node_at-record.ensures
     ∙ turn-leaf (nodes_in t.links.now t.clauses.now) c.args.k.0 e _ (sym (link-in _ _ _ c.requires.k_in_bounds.0) ∙ found-leaf _ _ _ c.link_at.ensures c.in_default.is)
