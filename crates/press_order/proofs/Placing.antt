@@ -37,15 +37,15 @@ module _ (t : List ℕ) {l r i j : ℕ} (p : i ≡ l) (q : j ≡ r) (x y : ℕ) 
 
 -- ---- the order that stands in the table
 
-stands-more : {numbers order : List ℕ} {n count : ℕ} → n < length numbers → Stands numbers count order
-    → Stands (set numbers n (suc count)) (count + 1) (n ∷ order)
+pub stands-more : {numbers order : List ℕ} {n i count : ℕ} → i ≡ n → n < length numbers → Stands numbers count order
+    → Stands (set numbers i (count + 1)) (count + 1) (n ∷ order)
 unfolding placed number_in
-stands-more {numbers} {order} {n} {count} h f = record {
+stands-more {numbers} {order} {n} {i} {count} same h f = record {
   numbered = λ m.
-      let more : suc count ≡ suc (length order) = ap suc f.counts in
+      let more : count + 1 ≡ suc (length order) = omega (arith, f.counts) in
       elim (ℕ_discrete m n) [
-        | yes e ↦ rw (e, eq-eqb n n refl, more) (get_or-set_same numbers n (suc (length order)) 0 h)
-        | no e ↦ rw (ne_eqb m n e) (get_or-set_other numbers n m (suc count) 0 e ∙ f.numbered m)
+        | yes e ↦ rw (same, e, eq-eqb n n refl, more) (get_or-set_same numbers n (suc (length order)) 0 h)
+        | no e ↦ rw (same, ne_eqb m n e) (get_or-set_other numbers n m (count + 1) 0 e ∙ f.numbered m)
       ];
   counts = omega (arith, f.counts);
 }
@@ -53,7 +53,8 @@ stands-more {numbers} {order} {n} {count} h f = record {
 pub stands-next : (t : List (Option NodeNo)) {order : List ℕ} {n i : ℕ} (k : NodeNo) → i ≡ n → n < length t → Stands (numbers_in t) k.0 order
     → Stands (numbers_in (set t i (Some k))) (k.0 + 1) (n ∷ order)
 stands-next t {order} {n} {i} k same h f =
-    rw (numbers-set t i n (Some k) same, some-suc (Some k) k refl) (stands-more (rw (numbers-length t) h) f)
+    let more : suc k.0 ≡ k.0 + 1 = omega arith in
+    rw (numbers-set t i n (Some k) same, some-suc (Some k) k refl, more) (stands-more refl (rw (numbers-length t) h) f)
 
 -- ---- the entry of a node
 
