@@ -26,6 +26,7 @@ use sheet::edition::Edition;
 use sheet::limits::TABLE_LINES;
 use sheet::{narrow, wide};
 use std::{fmt, io};
+use stdio::text;
 
 // The longest sheet and rule table of a case: a little more than the limits of either edition allow. A narrow sheet may be the longer one, a wide
 // rule table is.
@@ -94,28 +95,29 @@ impl From<&[u8; HEADER]> for Header {
     }
 }
 
-fn edition_name(edition: Edition) -> &'static str {
+fn edition_words(edition: Edition) -> &'static str {
     match edition {
-        Edition::Narrow => "narrow",
-        Edition::Wide => "wide",
+        Edition::Narrow => " narrow",
+        Edition::Wide => " wide",
     }
 }
 
-fn recycling_name(recycling: Recycling) -> &'static str {
+fn press_words(recycling: Recycling) -> &'static str {
     match recycling {
-        Recycling::Reset => "reset",
-        Recycling::Intersection => "intersection",
+        Recycling::Reset => " press reset",
+        Recycling::Intersection => " press intersection",
     }
 }
 
-fn lowering_name(lowering: Option<Lowerable>) -> &'static str {
+fn lowering_words(lowering: Option<Lowerable>) -> &'static str {
     match lowering {
-        None => "nothing",
-        Some(Lowerable::Units) => "units",
-        Some(Lowerable::Univalents) => "univalents",
+        None => " nothing",
+        Some(Lowerable::Units) => " units",
+        Some(Lowerable::Univalents) => " univalents",
     }
 }
 
+// Each with the blank before it: words are one piece of what is printed.
 impl fmt::Display for Header {
     fn fmt<W: fmt::Write>(&self, f: &mut fmt::Formatter<W>) -> fmt::Result {
         let Header {
@@ -127,37 +129,32 @@ impl fmt::Display for Header {
             marks,
             ..
         } = *self;
-        let edition = edition_name(plan.edition);
-        let recycling = recycling_name(plan.recycling);
-        let lowering = lowering_name(plan.lowering);
+        f.write_str(edition_words(plan.edition))?;
         match job {
-            Job::Press => write!(f, "{edition} press {recycling} {lowering}")?,
-            Job::Replay | Job::Shown => write!(f, "{edition} replay")?,
+            Job::Press => {
+                f.write_str(press_words(plan.recycling))?;
+                f.write_str(lowering_words(plan.lowering))?;
+            }
+            Job::Replay | Job::Shown => f.write_str(" replay")?,
         }
         write!(f, " {sheet} {rules} {room} {marks}")
     }
 }
 
-fn print_case(
-    rt: &impl Print,
-    number: u64,
-    head: Header,
-    sheet: &[u8],
-    rules: &[u8],
-) -> io::Result<()> {
-    println!(rt; "case {number} {head}")?;
+fn print_case(rt: &impl Print, number: u64, head: Header, sheet: &[u8], rules: &[u8]) {
+    text::print_fmt(rt, format_args!("case {number}{head}\n"));
     let edition = head.plan.edition;
     match head.job {
         Job::Press => press_case::run(rt, head.plan, sheet, rules, head.room, head.marks),
         Job::Replay => replay_case::run(rt, edition, sheet, rules, head.room),
         Job::Shown => {
-            replay_case::run(rt, edition, sheet, rules, head.room)?;
-            replay_case::show(rt, edition, sheet, rules, head.room)
+            replay_case::run(rt, edition, sheet, rules, head.room);
+            replay_case::show(rt, edition, sheet, rules, head.room);
         }
     }
 }
 
-// The sheet and the rule table are read into the first bytes of what is lent, which is zero. A case that cannot be printed is a case too.
+// The sheet and the rule table are read into the first bytes of what is lent, which is zero.
 fn run_in(
     rt: &(impl Input + Print),
     number: u64,
@@ -169,7 +166,7 @@ fn run_in(
     stdio::read_exact(rt, rules, head.rules_follows)?;
     let s = head.sheet.min(sheet.len());
     let r = head.rules.min(rules.len());
-    let _ = print_case(rt, number, head, &sheet[..s], &rules[..r]);
+    print_case(rt, number, head, &sheet[..s], &rules[..r]);
     Ok(())
 }
 

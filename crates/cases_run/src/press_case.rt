@@ -7,7 +7,6 @@ use sheet::Refusal;
 use sheet::edition::Edition;
 use sheet::limits::TABLE_LINES;
 use sheet::narrow::{PRESSED_RECORDS, RECORD_BYTES};
-use std::io;
 use stdio::text::{self, SetIn};
 
 // The most room and marks of a case: a little more than a press needs. A narrow one needs the most.
@@ -23,22 +22,22 @@ fn is_old(bytes: &[u8]) -> bool {
 }
 
 // Ends the line before it.
-fn print_beyond(rt: &impl Print, out: &[u8], marks: &[u8]) -> io::Result<()> {
+fn print_beyond(rt: &impl Print, out: &[u8], marks: &[u8]) {
     if is_old(out) && is_old(marks) {
-        println!(rt; "\nuntouched")
+        text::print(rt, b"\nuntouched\n");
     } else {
-        println!(rt; "\ntouched")
+        text::print(rt, b"\ntouched\n");
     }
 }
 
-fn order_name(order: Order) -> &'static str {
+fn order_words(order: Order) -> &'static str {
     match order {
-        Order::BottomUp => "bottom-up",
-        Order::TopDown => "top-down",
+        Order::BottomUp => " order bottom-up",
+        Order::TopDown => " order top-down",
     }
 }
 
-fn print_pressed(rt: &impl Print, edition: Edition, pressed: Pressed) -> io::Result<()> {
+fn print_pressed(rt: &impl Print, edition: Edition, pressed: Pressed) {
     let Pressed {
         records,
         nodes,
@@ -50,9 +49,12 @@ fn print_pressed(rt: &impl Print, edition: Edition, pressed: Pressed) -> io::Res
     let Clause { positive, negative } = pressed.conclusion;
     let positive = SetIn(edition, positive);
     let negative = SetIn(edition, negative);
-    let order = order_name(pressed.order);
-    print!(rt; "= ok {positive} {negative} records {records} nodes {nodes} steps {steps}")?;
-    print!(rt; " peak {peak} marked {marked} order {order}")
+    let order = order_words(pressed.order);
+    text::print_fmt(
+        rt,
+        format_args!("= ok {positive} {negative} records {records} nodes {nodes} steps {steps}"),
+    );
+    text::print_fmt(rt, format_args!(" peak {peak} marked {marked}{order}"));
 }
 
 fn print_memory(
@@ -62,15 +64,15 @@ fn print_memory(
     lines: usize,
     out: &[u8],
     marks: &[u8],
-) -> io::Result<()> {
+) {
     let bytes = edition.record_bytes() * usize::from(records);
     let n = bytes.min(out.len());
     let m = lines.min(marks.len());
-    print!(rt; "\nout ")?;
-    text::print_bytes(rt, &out[..n])?;
-    print!(rt; "\nmarks ")?;
-    text::print_bytes(rt, &marks[..m])?;
-    print_beyond(rt, &out[n..], &marks[m..])
+    text::print(rt, b"\nout ");
+    text::print_bytes(rt, &out[..n]);
+    text::print(rt, b"\nmarks ");
+    text::print_bytes(rt, &marks[..m]);
+    print_beyond(rt, &out[n..], &marks[m..]);
 }
 
 fn print_outcome(
@@ -80,15 +82,16 @@ fn print_outcome(
     lines: usize,
     out: &[u8],
     marks: &[u8],
-) -> io::Result<()> {
+) {
     match answer {
         Ok(pressed) => {
-            print_pressed(rt, edition, pressed)?;
-            print_memory(rt, edition, pressed.records, lines, out, marks)
+            print_pressed(rt, edition, pressed);
+            print_memory(rt, edition, pressed.records, lines, out, marks);
         }
         Err(Refusal { why, at }) => {
-            print!(rt; "= refused {} {}", why as u32, at.0)?;
-            print_beyond(rt, out, marks)
+            let number = sheet::number_of(why);
+            text::print_fmt(rt, format_args!("= refused {number} {}", at.0));
+            print_beyond(rt, out, marks);
         }
     }
 }
@@ -101,12 +104,12 @@ pub(crate) fn run(
     rules: &[u8],
     room: usize,
     marks: usize,
-) -> io::Result<()> {
+) {
     let mut out = [OLD; ROOM];
     let mut core = [OLD; MARKS];
     let n = room.min(ROOM);
     let m = marks.min(MARKS);
     let answer = press::press(plan, sheet, rules, &mut out[..n], &mut core[..m]);
     let lines = plan.edition.lines_in(rules.len());
-    print_outcome(rt, plan.edition, answer, lines, &out, &core)
+    print_outcome(rt, plan.edition, answer, lines, &out, &core);
 }

@@ -6,6 +6,7 @@ use sheet::limits::TABLE_LINES;
 use sheet::narrow::{LINE_BYTES, PRESS_RECORDS, PRESSED_RECORDS, RECORD_BYTES};
 use std::fs::Files;
 use std::io;
+use stdio::text;
 
 mod say;
 
@@ -16,22 +17,17 @@ const SHEET: usize = RECORD_BYTES * PRESS_RECORDS;
 
 const PRESSED: usize = RECORD_BYTES * PRESSED_RECORDS;
 
-// The status says nothing of a line that cannot be printed.
-fn main(rt: HostRuntime) {
-    let _ = run(&rt);
-}
-
 // Both files are read before anything is judged, "`rules.bin` tried first".
-fn run<R: Files + Print>(rt: &R) -> io::Result<()> {
+fn main(rt: HostRuntime) {
     let mut rules = [0u8; RULES];
     let mut sheet = [0u8; SHEET];
-    let Ok(rules_length) = program_files::read_file(rt, b"rules.bin", &mut rules) else {
-        return println!(rt; "unreadable rules.bin");
+    let Ok(rules_length) = program_files::read_file(&rt, b"rules.bin", &mut rules) else {
+        return text::print(&rt, b"unreadable rules.bin\n");
     };
-    let Ok(sheet_length) = program_files::read_file(rt, b"sheet.bin", &mut sheet) else {
-        return println!(rt; "unreadable sheet.bin");
+    let Ok(sheet_length) = program_files::read_file(&rt, b"sheet.bin", &mut sheet) else {
+        return text::print(&rt, b"unreadable sheet.bin\n");
     };
-    answer(rt, &sheet, sheet_length, &rules, rules_length)
+    answer(&rt, &sheet, sheet_length, &rules, rules_length);
 }
 
 fn write_pressed<R: Files>(rt: &R, bytes: &[u8]) -> io::Result<()> {
@@ -46,7 +42,7 @@ fn answer<R: Files + Print>(
     sheet_length: usize,
     rules: &[u8; RULES],
     rules_length: usize,
-) -> io::Result<()> {
+) {
     let mut out = [0u8; PRESSED];
     let mut marks = [0u8; TABLE_LINES];
     let answer = program_whole::press_whole(
@@ -62,7 +58,7 @@ fn answer<R: Files + Print>(
             let end = program_whole::record_bytes(pressed);
             match write_pressed(rt, &out[..end]) {
                 Ok(()) => say::accepted(rt, pressed),
-                Err(_) => println!(rt; "unwritable pressed.bin"),
+                Err(_) => text::print(rt, b"unwritable pressed.bin\n"),
             }
         }
         Err(refusal) => say::refused(rt, refusal),

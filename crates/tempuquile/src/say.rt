@@ -1,10 +1,10 @@
 // The one line that is printed.
 use press_write::Pressed;
 use sheet::Refusal;
-use std::io;
+use stdio::text;
 
 // ok records 5 nodes 3 steps 1 peak 3 core 2
-pub(crate) fn accepted(rt: &impl Print, pressed: Pressed) -> io::Result<()> {
+pub(crate) fn accepted(rt: &impl Print, pressed: Pressed) {
     let Pressed {
         records,
         nodes,
@@ -13,15 +13,20 @@ pub(crate) fn accepted(rt: &impl Print, pressed: Pressed) -> io::Result<()> {
         marked,
         ..
     } = pressed;
-    println!(rt; "ok records {records} nodes {nodes} steps {steps} peak {peak} core {marked}")
+    text::print_fmt(
+        rt,
+        format_args!(
+            "ok records {records} nodes {nodes} steps {steps} peak {peak} core {marked}\n"
+        ),
+    );
 }
 
 // refused 9 at 2, and for 1 to 5 refused 3
-pub(crate) fn refused(rt: &impl Print, refusal: Refusal) -> io::Result<()> {
+pub(crate) fn refused(rt: &impl Print, refusal: Refusal) {
     let Refusal { why, at } = refusal;
-    let number = why as u32;
+    let number = sheet::number_of(why);
     if number <= 5 {
-        return println!(rt; "refused {number}");
+        return text::print_fmt(rt, format_args!("refused {number}\n"));
     }
-    println!(rt; "refused {number} at {}", at.0)
+    text::print_fmt(rt, format_args!("refused {number} at {}\n", at.0));
 }
