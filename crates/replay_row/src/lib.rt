@@ -58,9 +58,10 @@ pub fn free(slots: &mut [Slot], at: SlotNo)
 }
 
 // Every slot freed.
-#[tactic(auto, using(crate::proofs::Cells::all_zero))]
 pub fn clear(slots: &mut [Slot])
     ensures { row_of slots.new ≡ cleared (row_of slots.old) }
 {
-    slots.fill(replay_slots::empty());
+    for at in 0..slots.len() {
+        free(slots, SlotNo(at));
+    }
 }
