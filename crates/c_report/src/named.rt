@@ -48,6 +48,7 @@ impl From<Unnamed> for u32 {
 }
 
 // 0 names that nothing is lowered.
+#[tactic(auto, unfolding(crate::specs::Named::lowering_named, crate::specs::Named::names_lowering, crate::specs::Named::lowering_of, press_spec::specs::Plans::lowerable_named))]
 fn lowering_named(number: u32) -> Result<Option<Lowerable>, NoLowerable>
     ensures { result ≡ lowering_named number }
 {
@@ -58,6 +59,7 @@ fn lowering_named(number: u32) -> Result<Option<Lowerable>, NoLowerable>
 }
 
 // The edition is looked at first, then the recycling, then the lowering.
+#[tactic(auto, unfolding(crate::specs::Named::plan_of, crate::specs::Named::names, crate::specs::Named::edition_of, crate::specs::Named::recycling_of, crate::specs::Named::lowering_named, sheet::specs::Editions::edition_named, press_spec::specs::Plans::recycling_named))]
 pub fn plan_of(edition: u32, recycling: u32, lowering: u32) -> Result<Plan, Unnamed>
     ensures { result ≡ plan_of edition recycling lowering }
 {
