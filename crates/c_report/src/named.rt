@@ -1,6 +1,6 @@
 // What a caller names by numbers: the plan of a press; the edition of a replay is named alone (`Edition::try_from`).
 ghost use Rattle.std.specs.Prelude.{◌≡◌};
-ghost use Rattle.c_report.specs.Named.{unnamed_code, lowering_named, plan_of};
+ghost use Rattle.c_report.specs.Named.{names, edition_of, unnamed_code, lowering_named, plan_of};
 ghost use Rattle.c_report.specs.declared.named.Unnamed.TheVariants as U;
 
 use press_spec::{Lowerable, NoLowerable, NoRecycling, Plan, Recycling};
@@ -45,6 +45,22 @@ impl From<Unnamed> for u32 {
     fn from(what: Unnamed) -> u32 {
         what as u32
     }
+}
+
+// Whether a number names an edition; the same numbers name a recycling.
+#[tactic(auto, unfolding(crate::specs::Named::names, sheet::specs::Editions::edition_named))]
+pub fn names_one(number: u32) -> bool
+    ensures { result ≡ names number }
+{
+    Edition::try_from(number).is_ok()
+}
+
+// The edition that a number names; of those that name none it may be any.
+#[tactic(auto, unfolding(crate::specs::Named::edition_of, sheet::specs::Editions::edition_named))]
+pub fn edition_of(number: u32) -> Edition
+    ensures { result ≡ edition_of number }
+{
+    Edition::try_from(number).unwrap_or(Edition::Wide)
 }
 
 // 0 names that nothing is lowered.
