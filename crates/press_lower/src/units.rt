@@ -39,6 +39,7 @@ pub(crate) fn cut_units(
     let fates = &mut fates[..n];
     uses::uses_with(links, from, kept, counts);
     collect::collect_units(edition.variables(), clauses, counts, from, low);
-    cuts::cut_uses(links, low, kept, fates);
+    cuts::put_marked(kept, fates);
+    cuts::cut_uses(links, low, fates);
     press_rebuild::rebuild(links, clauses, fates, stand_ins);
 }

@@ -7,6 +7,7 @@ use Rattle.press_spec.specs.Lower.{low_at, fates_by}
 use Rattle.press_nodes.specs.Tables.{links_in, nodes_in}
 use Rattle.press_lowered.specs.Table.{low_in}
 use Rattle.press_nodes.proofs.Lent.{lent-long}
+use Rattle.press_units.proofs.Cuttings.{cuts-marked}
 use Rattle.press_lower.proofs.Lowering.{units_in, units-built}
 use Rattle.press_lower.proofs.units.cut_units.Goals as goal
 
@@ -23,4 +24,5 @@ returns-clause-built c =
     c.uses_with.ensures.uses c.collect_units.ensures)
     (c.rebuild.ensures
     ∙ ap (rebuild (nodes_in h c.args.clauses.now))
-    (c.cut_uses.ensures ∙ ap (λ (m : List ℕ). fates_by m (low_at (low_in c.collect_units.new.low)) (links_in h)) c.uses_with.ensures.marks))
+    (c.cut_uses.ensures ∙ cuts-marked _ _ _ _ c.put_marked.ensures
+    ∙ ap (λ (m : List ℕ). fates_by m (low_at (low_in c.collect_units.new.low)) (links_in h)) c.uses_with.ensures.marks))

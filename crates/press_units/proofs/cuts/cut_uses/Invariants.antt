@@ -8,4 +8,5 @@ use Rattle.press_units.proofs.Cuttings.{CutBelow}
 use Rattle.press_units.proofs.cuts.cut_uses.Given as goal
 
 abbrev pub invariant-loop-i : goal.invariant-loop-i
-invariant-loop-i l = (l.i ≤ length l.links) × (length l.fates ≡ length l.links) × CutBelow (links_in l.links) (low_at (low_in l.low)) l.kept l.i l.fates
+invariant-loop-i l =
+    (l.i ≤ length l.links) × (length l.fates ≡ length l.links) × CutBelow (links_in l.links) (low_at (low_in l.low)) l.initial.fates l.i l.fates
