@@ -1,5 +1,5 @@
-// Standard input and standard output, as the programs use them. No contract can say what is read or printed: these functions are proved
-// safe and ending.
+// Standard input and standard output, as the programs use them. No contract can say what of the runtime is read or printed: these functions are
+// proved safe and ending.
 #![tactic(auto)]
 
 pub mod text;
